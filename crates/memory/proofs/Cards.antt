@@ -1,0 +1,67 @@
+-- What a card shows, address by address.
+use mathlib.Core.Bool.{true, _&&_}
+use mathlib.Core.List.{List}
+use mathlib.Core.Logic.{_⊎_, inl, inr, ⊎-elim}
+use mathlib.Core.Path.{_≡_, ap, _∙_}
+use Prim.Native.Nat.{ℕ, _+_, _-_, _*_, _/_, _%_, _^_, _<_, _≤_, min}
+use native.Mathlib.Omega.{arith}
+use lib.Dec.{ltb, leb}
+use lib.ListN.{length, getD, drop}
+use Rattle.std.proofs.shelf.Lists.{getD-take, getD-drop, getD-past, length-take, length-drop}
+use Rattle.std.proofs.shelf.Tests.{ltb-true, leb-true, lt-ltb, le-leb, and-from, and-parts, cond-true, cond-false, cases-bool, cases-lt}
+use Rattle.memory.specs.Cards.{block, block-count, data-outcome, card}
+use Rattle.memory.specs.Halfwords.{Bytes}
+use Rattle.memory.specs.Memories.{in-reach}
+use Rattle.memory.specs.Outcomes.{absent}
+
+-- the address shows some block of a file
+abbrev pub Shows-some : ℕ → List ℕ → ℕ → Type 0
+Shows-some base file a = (base ≤ a) × (a < 2 ^ 32) × ((a - base) / 504 < block-count file)
+
+pub card-inside : (base : ℕ) (file : List ℕ) (a : ℕ) → Shows-some base file a
+    → card base file a ≡ data-outcome file ((a - base) / 504) ((a - base) % 504)
+card-inside base file a h =
+    cond-true _ _ _ (and-from _ _ (and-from _ _ (le-leb _ _ (h .0)) (lt-ltb _ _ (h .1))) (lt-ltb _ _ (h .2)))
+
+pub card-outside : (base : ℕ) (file : List ℕ) (a : ℕ) → (Shows-some base file a → ⊥) → card base file a ≡ absent
+card-outside base file a h =
+    ⊎-elim
+    (λ (e : (in-reach base a && ltb ((a - base) / 504) (block-count file)) ≡ true).
+    let parts = and-parts (in-reach base a) _ e in
+    let reach = and-parts (leb base a) _ (parts .0) in
+    absurd (h (leb-true _ _ (reach .0), ltb-true _ _ (reach .1), ltb-true _ _ (parts .1))))
+    (λ e. cond-false _ _ _ e)
+    (cases-bool (in-reach base a && ltb ((a - base) / 504) (block-count file)))
+
+-- byte j of block k is byte 512 · k + j of the file
+pub block-byte : (file : List ℕ) (k j : ℕ) → j < 512 → getD (block file k) j 0 ≡ getD file (512 * k + j) 0
+block-byte file k j l = getD-take 512 (drop (512 * k) file) j 0 l ∙ getD-drop (512 * k) file j 0
+
+-- past its 512 bytes a block has none
+pub block-past : (file : List ℕ) (k j : ℕ) → 512 ≤ j → getD (block file k) j 0 ≡ 0
+block-past file k j l = getD-past (block file k) j 0 (omega (arith, length-take 512 (drop (512 * k) file)))
+
+pub block-bytes : (file : List ℕ) (k : ℕ) → Bytes file → Bytes (block file k)
+block-bytes file k p j =
+    ⊎-elim
+    (λ (l : j < 512). omega (arith, block-byte file k j l, p (512 * k + j)))
+    (λ (g : 512 ≤ j). omega (arith, block-past file k j g))
+    (cases-lt j 512)
+
+pub length-block : (file other : List ℕ) (k : ℕ) → length file ≡ length other → length (block file k) ≡ length (block other k)
+length-block file other k e =
+    simp (length-take, length-drop) (ap (λ n. min 512 (n - 512 * k)) e)
+
+-- an address shows some block or none
+pub cases-shows : (base : ℕ) (file : List ℕ) (a : ℕ) → Shows-some base file a ⊎ (Shows-some base file a → ⊥)
+cases-shows base file a =
+    ⊎-elim
+    (λ (under : base < a + 1).
+    let low : base ≤ a = omega arith in
+    ⊎-elim
+    (λ (top : a < 2 ^ 32).
+    ⊎-elim (λ (in-file : (a - base) / 504 < block-count file). inl (low, top, in-file)) (λ out. inr (λ h. omega arith)) (cases-lt ((a - base) / 504) (block-count file)))
+    (λ past. inr (λ h. omega arith))
+    (cases-lt a (2 ^ 32)))
+    (λ below. inr (λ h. omega arith))
+    (cases-lt base (a + 1))
