@@ -1,5 +1,5 @@
 ghost use mathlib.Core.Path.{_≡_};
-ghost use Prim.Native.Nat.{ℕ, _<_};
+ghost use Prim.Native.Nat.{ℕ, _%_, _<_};
 ghost use lib.ListN.{getD};
 ghost use Rattle.std.specs.Of.Vec.{vec-items};
 ghost use Rattle.memory.specs.declared.block.BlockState.the-variants.{Sound};
@@ -51,20 +51,26 @@ impl Card {
         self.states[k]
     }
 
-    // Sums every block once and shows the sound ones; an odd base is rounded down to even. The clause `outcome` is
-    // about what the made memory shows, the outcome function below; `laws` says what that means for a damaged card
-    // and for a sealed one.
+    // The card of a file at an even base; each block is summed once.
+    fn at_even_base(base: u32, file: Vec<u8>) -> Self
+        requires { ⌜ base % 2 ≡ 0 ⌝ }
+        ensures outcome { λ r. ⌜ card (r .base) (vec-items (r .file)) ≡ card base (vec-items file) ⌝ }
+        ensures file { λ r. ⌜ vec-items (r .file) ≡ vec-items file ⌝ }
+        ensures laws { λ r. ⌜ Card-laws base (vec-items file) (card (r .base) (vec-items (r .file))) ⌝ }
+    {
+        let states = check_blocks(file.as_slice());
+        Card { base, file, states }
+    }
+
+    // Takes a file over and shows its sound blocks; an odd base is rounded down to even. The clause `outcome` is about
+    // what the made memory shows, the outcome function below; `laws` says what that means for a damaged card and for
+    // a sealed one.
     pub fn new(base: u32, file: Vec<u8>) -> Self
         ensures outcome { λ r. ⌜ card (r .base) (vec-items (r .file)) ≡ card (even base) (vec-items file) ⌝ }
         ensures file { λ r. ⌜ vec-items (r .file) ≡ vec-items file ⌝ }
         ensures laws { λ r. ⌜ Card-laws (even base) (vec-items file) (card (r .base) (vec-items (r .file))) ⌝ }
     {
-        let states = check_blocks(file.as_slice());
-        Card {
-            base: base - base % 2,
-            file,
-            states,
-        }
+        Card::at_even_base(base - base % 2, file)
     }
 
     // How many blocks the card has.
