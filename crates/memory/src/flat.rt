@@ -2,6 +2,7 @@ ghost use denote.Ref.{now};
 ghost use mathlib.Core.Path.{_≡_};
 ghost use Rattle.memory.specs.Halfwords.{even};
 ghost use Rattle.memory.specs.Memories.{flat};
+use crate::block::halfword_at;
 use crate::memory::Memory;
 use crate::refusal::Refusal;
 
@@ -39,6 +40,6 @@ pub impl<'a> Memory for Flat<'a> as FlatMemory {
         if at + 1 >= self.bytes.len() {
             return Err(Refusal::Absent);
         }
-        Ok(u16::from(self.bytes[at]) + 256 * u16::from(self.bytes[at + 1]))
+        Ok(halfword_at(self.bytes, at))
     }
 }
