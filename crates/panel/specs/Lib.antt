@@ -1,0 +1,7 @@
+pub mod Numbers
+pub mod Bytes
+pub mod Pieces
+pub mod Fields
+pub mod Commands
+pub mod Rams
+pub mod Panels
