@@ -1,6 +1,1 @@
-pub mod Forms
 pub mod Pokes
-pub mod Runs
-pub mod Spelling
-pub mod Twos
-pub mod Words

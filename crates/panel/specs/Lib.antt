@@ -1,7 +1,3 @@
-pub mod Numbers
-pub mod Bytes
-pub mod Pieces
-pub mod Fields
-pub mod Commands
+pub mod Lines
 pub mod Rams
 pub mod Panels

@@ -9,8 +9,8 @@ use lib.ListN.{length, take, drop, replicate}
 use Rattle.std.specs.Of.Vec.{vec-items, vec-len}
 use Rattle.std.specs.declared.result.Result.{Result}
 use Rattle.std.specs.declared.result.Result.the-variants.{Ok, Err}
-use Rattle.panel.specs.declared.errors.ScriptError.{ScriptError}
-use Rattle.panel.specs.declared.errors.ScriptError.the-variants.{RamTooLarge, NotInsideRam, OutOfMemory}
+use Rattle.script.specs.declared.errors.ScriptError.{ScriptError}
+use Rattle.script.specs.declared.errors.ScriptError.the-variants.{RamTooLarge, NotInsideRam, OutOfMemory}
 use Rattle.panel.specs.declared.ram.Ram.{Ram}
 
 -- a RAM of zero bytes from an even base on

@@ -1,5 +1,5 @@
 // Files that a script names.
-use crate::errors::ScriptError;
+use script::ScriptError;
 use std::fs::File;
 use std::io;
 use std::io::Read;
@@ -7,8 +7,11 @@ use std::io::Read;
 // The bytes of a card's file that count: 4,096 blocks of 512.
 const LIMIT: u64 = 2_097_152;
 
-// The start of a file, as far as its bytes count.
-pub(crate) fn read_file(rt: &LibcRuntime, path: &str) -> Result<Vec<u8>, ScriptError> {
+// The start of a file, as far as its bytes count. A path that is no text names no file.
+pub(crate) fn read_file(rt: &LibcRuntime, path: &[u8]) -> Result<Vec<u8>, ScriptError> {
+    let Ok(path) = std::str::from_utf8(path) else {
+        return Err(ScriptError::FileUnreadable);
+    };
     let mut bytes = Vec::new(rt.alloc());
     match read_start(rt, path, &mut bytes) {
         Ok(()) => Ok(bytes),

@@ -1,6 +1,6 @@
 // The lines of the input.
 ghost use mathlib.Core.Path.{_≡_};
-ghost use Rattle.panel.specs.Pieces.{without-feed};
+ghost use Rattle.panel.specs.Lines.{without-feed};
 use std::io;
 use std::io::BufRead;
 

@@ -2,24 +2,19 @@
 ghost use mathlib.Core.Path.{_≡_};
 ghost use Rattle.std.specs.Vec.{refused};
 
-mod bytes;
-mod errors;
 mod files;
 mod help;
 mod lines;
-mod numbers;
 mod panel;
-mod pieces;
 mod print;
 mod ram;
-mod script;
 #[cfg(test)]
 mod tests;
 
-use errors::ScriptError;
 use help::HELP;
 use panel::Answer;
 use panel::Panel;
+use script::ScriptError;
 use std::env;
 use std::error::AnyError;
 use std::io;

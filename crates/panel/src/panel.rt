@@ -4,18 +4,20 @@ ghost use mathlib.Core.Path.{_≡_};
 ghost use Rattle.std.specs.Of.Vec.{vec-items};
 ghost use Rattle.std.specs.Vec.{refused};
 ghost use Rattle.std.specs.declared.result.Result.the-variants.{Ok};
-ghost use Rattle.panel.specs.Panels.{Shows-card, Makes-ram, Sets-boundary, Pokes, Does};
-use crate::errors::ScriptError;
+ghost use Rattle.memory.specs.Outcomes.{answer};
+ghost use Rattle.panel.specs.Panels.{Shows-card, Makes-ram, Sets-boundary, Pokes, Does, card-file, shown, peeked};
 use crate::files::read_file;
 use crate::ram::Ram;
-use crate::script::Command;
 use memory::Card;
 use memory::CardMemory;
 use memory::FlatMemory;
 use memory::LentMemory;
 use memory::Memory;
+use memory::Refusal;
 use memory::Split;
 use memory::SplitMemory;
+use script::Command;
+use script::ScriptError;
 use std::alloc::Global;
 
 #[derive(Drop)]
@@ -39,7 +41,7 @@ pub(crate) enum Answer {
 impl Panel {
     // A card with no blocks, a RAM of no bytes, the boundary at 0.
     pub(crate) fn new(heap: Global) -> Panel
-        ensures { λ r. ⌜ r .boundary ≡ 0 ⌝ ∗ ⌜ r .ram .base ≡ 0 ⌝ ∗ ⌜ vec-items (r .ram .bytes) ≡ [] ⌝ }
+        ensures { λ r. ⌜ r .boundary ≡ 0 ⌝ ∗ ⌜ card-file r ≡ [] ⌝ ∗ ⌜ r .ram .base ≡ 0 ⌝ ∗ ⌜ vec-items (r .ram .bytes) ≡ [] ⌝ }
     {
         let card = Card::new(0, Vec::new(heap));
         let ram = Ram::empty(heap);
@@ -68,8 +70,8 @@ impl Panel {
         }
     }
 
-    fn show_card(&mut self, rt: &LibcRuntime, base: u32, path: &str) -> Result<Answer, ScriptError>
-        ensures { λ r. ⌜ Shows-card (now (self .entry)) r (now (self .exit)) ⌝ }
+    fn show_card(&mut self, rt: &LibcRuntime, base: u32, path: &[u8]) -> Result<Answer, ScriptError>
+        ensures { λ r. ⌜ Shows-card base (now (self .entry)) r (now (self .exit)) ⌝ }
     {
         let file = read_file(rt, path)?;
         let card = Card::new(base, file);
@@ -100,9 +102,18 @@ impl Panel {
         Ok(Answer::Poked { count: bytes.len() })
     }
 
-    fn peek(&self, address: u32) -> Answer {
+    // A halfword of the panel's memory.
+    fn read(&self, address: u32) -> Result<u16, Refusal>
+        ensures { λ r. ⌜ r ≡ answer (shown (now (self .entry))) address ⌝ }
+    {
         let memory = Split::new(self.boundary, &self.card, self.ram.memory());
-        match memory.read(address) {
+        memory.read(address)
+    }
+
+    fn peek(&self, address: u32) -> Answer
+        ensures { λ r. ⌜ r ≡ peeked (answer (shown (now (self .entry))) address) ⌝ }
+    {
+        match self.read(address) {
             Ok(halfword) => Answer::Halfword(halfword),
             Err(refusal) => Answer::Refused(refusal.number()),
         }

@@ -3,9 +3,11 @@ ghost use mathlib.Core.List.{[]};
 ghost use mathlib.Core.Path.{_≡_};
 ghost use Rattle.std.specs.Of.Vec.{vec-items};
 ghost use Rattle.std.specs.Results.{Cases};
+ghost use Rattle.memory.specs.Halfwords.{even};
+ghost use Rattle.memory.specs.Memories.{flat};
 ghost use Rattle.panel.specs.Rams.{Zeroed, Not-made, inside, Poke-of};
-use crate::errors::ScriptError;
 use memory::Flat;
+use script::ScriptError;
 use std::alloc::Global;
 
 // The most bytes that a RAM may have.
@@ -44,7 +46,10 @@ impl Ram {
         Ok(Ram { base, bytes })
     }
 
-    pub(crate) fn memory(&self) -> Flat<'_> {
+    // The RAM as a memory.
+    pub(crate) fn memory(&self) -> Flat<'_>
+        ensures { λ r. ⌜ flat (r .base) (now (r .bytes)) ≡ flat (even (now (self .entry) .base)) (vec-items (now (self .entry) .bytes)) ⌝ }
+    {
         Flat::new(self.base, self.bytes.as_slice())
     }
 

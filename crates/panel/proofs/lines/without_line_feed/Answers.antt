@@ -4,7 +4,7 @@ use Prim.Native.Nat.{ℕ}
 use native.Mathlib.Omega.{arith}
 use borrow.Author.Tests.{ltb-true}
 use lib.ListN.{length}
-use Rattle.panel.specs.Pieces.{without-feed}
+use Rattle.panel.specs.Lines.{without-feed}
 use Rattle.panel.proofs.lines.without_line_feed.Needs as need
 
 none : (bs : List ℕ) → length bs ≡ 0 → bs ≡ without-feed bs
