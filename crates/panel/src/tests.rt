@@ -1,4 +1,5 @@
-// Examples of what the RAM takes.
+// Examples of lines, and of what the RAM takes.
+use crate::lines::without_line_feed;
 use crate::ram::Ram;
 use std::test::*;
 
@@ -12,4 +13,12 @@ fn pokes_stay_inside(rt: LibcRuntime) -> Result<(), Fail> {
     check(ram.poke(0xFFFF_FFFE, b"abc").is_err())?;
     check(ram.poke(0xFFFF_FFFF, b"ab").is_err())?;
     check(ram.poke(0xFFFF_FFFD, b"a").is_err())
+}
+
+#[test]
+fn a_last_line_may_lack_its_line_feed() -> Result<(), Fail> {
+    check(without_line_feed(b"peek 0\n") == b"peek 0".as_slice())?;
+    check(without_line_feed(b"peek 0") == b"peek 0".as_slice())?;
+    check(without_line_feed(b"\n").is_empty())?;
+    check(without_line_feed(b"").is_empty())
 }
