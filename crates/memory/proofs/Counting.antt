@@ -1,14 +1,12 @@
 -- The state of a block says whether it is sound, and the sound ones are counted one by one.
 use mathlib.Core.Bool.{Bool, true, false, cond}
 use mathlib.Core.List.{List}
-use mathlib.Core.Path.{_≡_, refl, sym, ap, _∙_}
-use Prim.Native.Nat.{ℕ, zero, suc, _+_, _≤_}
+use mathlib.Core.Path.{_≡_, refl}
+use Prim.Native.Nat.{ℕ, _+_}
 use native.Mathlib.Numerals.{add-one}
 use native.Mathlib.Omega.{arith}
-use Rattle.memory.specs.declared.block.BlockState.{BlockState}
 use Rattle.memory.specs.declared.block.BlockState.the-variants.{Sound, Unsound}
 use Rattle.memory.specs.Cards.{sound-at, sound-count}
-use Rattle.memory.specs.States.{state, state-at}
 
 -- a test whose state is Sound came out true, one whose state is Unsound false
 pub sound-from : (b : Bool) → cond b Sound Unsound ≡ Sound → b ≡ true

@@ -1,15 +1,15 @@
 -- One altered halfword makes a block unsound.
-use mathlib.Core.Bool.{Bool, true, false}
+use mathlib.Core.Bool.{true}
 use mathlib.Core.List.{List}
-use mathlib.Core.Logic.{_⊎_, inl, inr, ⊎-elim}
-use mathlib.Core.Path.{_≡_, refl, sym, subst, _∙_}
+use mathlib.Core.Logic.{_⊎_, ⊎-elim}
+use mathlib.Core.Path.{_≡_, sym, subst, _∙_}
 use Prim.Native.Nat.{ℕ, zero, suc, _+_, _*_, _<_, _≤_}
 use native.Mathlib.Omega.{arith}
 use lib.ListN.{getD}
 use Rattle.std.proofs.shelf.Tests.{eqb-true, and-parts, and-left, cases-eq, cases-bool, cases-lt}
-use Rattle.memory.specs.Blocks.{first-sum, second-sum, sums-hold, sound}
+use Rattle.memory.specs.Blocks.{first-sum, second-sum, sums-hold}
 use Rattle.memory.specs.Halfwords.{halfword, Bytes}
-use Rattle.memory.specs.Laws.{Altered-at, Damage-shows}
+use Rattle.memory.specs.Laws.{Damage-shows}
 use Rattle.memory.proofs.Sums.{Agree, first-sum-same, second-sum-same, first-sum-small}
 
 -- the halfwords of two blocks agree at every place below n but j

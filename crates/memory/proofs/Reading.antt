@@ -1,10 +1,9 @@
 -- What a read of a sound block gives.
 use mathlib.Core.Bool.{true, false}
 use mathlib.Core.List.{List}
-use mathlib.Core.Path.{_≡_, refl, sym, ap, _∙_}
-use Prim.Native.Nat.{ℕ, _-_, _*_, _/_, _%_, _<_, _≤_, _^_}
+use mathlib.Core.Path.{_≡_, ap}
+use Prim.Native.Nat.{ℕ, _-_, _/_, _%_, _<_, _≤_, _^_}
 use lib.Dec.{eqb, ltb, leb}
-use lib.ListN.{take, drop}
 use Rattle.std.proofs.shelf.Tests.{ne-eqb, le-leb, lt-ltb}
 use Rattle.std.specs.declared.result.Result.the-variants.{Ok}
 use Rattle.memory.specs.Outcomes.{answer}

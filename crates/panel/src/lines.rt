@@ -1,6 +1,6 @@
 // The lines of the input.
 ghost use mathlib.Core.Path.{_≡_};
-ghost use Rattle.panel.specs.Lines.{without-feed};
+ghost use Rattle.panel.specs.Lines.{without-feed, before-feed, line-end};
 use std::io;
 use std::io::BufRead;
 
@@ -28,11 +28,25 @@ pub(crate) fn skip_line(input: &mut impl BufRead) -> io::Result<()> {
 }
 
 // How many bytes to pass over, and whether the line or the input ends there.
-fn until_line_feed(held: &[u8]) -> (usize, bool) {
+fn until_line_feed(held: &[u8]) -> (usize, bool)
+    ensures { λ r. ⌜ r ≡ line-end (now (held .entry)) ⌝ }
+{
+    let before = before_line_feed(held);
+    if before < held.len() {
+        (before + 1, true)
+    } else {
+        (held.len(), held.is_empty())
+    }
+}
+
+// How many bytes stand before the first line feed.
+fn before_line_feed(held: &[u8]) -> usize
+    ensures { λ r. ⌜ r ≡ before-feed (now (held .entry)) ⌝ }
+{
     for (i, byte) in held.iter().enumerate() {
         if *byte == b'\n' {
-            return (i + 1, true);
+            return i;
         }
     }
-    (held.len(), held.is_empty())
+    held.len()
 }

@@ -1,5 +1,5 @@
 -- Command words, and what a line with none of them means.
-use mathlib.Core.Bool.{Bool, true, false, not, cond, _||_, _&&_}
+use mathlib.Core.Bool.{Bool, true, false, not, _&&_}
 use mathlib.Core.List.{List, [], _∷_}
 use mathlib.Core.Logic.{_⊎_, inl, inr, ⊎-elim}
 use mathlib.Core.Path.{_≡_, refl, sym, ap, subst, _∙_}
@@ -7,25 +7,22 @@ use Prim.Native.Nat.{ℕ, _<_}
 use native.Mathlib.Omega.{arith}
 use lib.Chars.{codes}
 use lib.Dec.{eqb, ltb}
-use lib.ListN.{length, getD}
+use lib.ListN.{length}
 use Rattle.std.proofs.shelf.Elements.{has-from-contains}
 use Rattle.std.proofs.shelf.Equals.{sameBytes-decides}
 use Rattle.std.proofs.shelf.Tests.{false≢true, eqb-true, and-parts, ltb-true}
-use Rattle.std.proofs.shelf.Ways.{same-from-decides, decides-by-or, decides-eqb, not-from-decides}
+use Rattle.std.proofs.shelf.Ways.{same-from-decides, decides-by-or, decides-eqb}
 use Rattle.std.specs.Orderings.{Decides}
-use Rattle.std.specs.Places.{At, Some-of}
+use Rattle.std.specs.Places.{Some-of}
 use Rattle.std.specs.shelf.Text.{sameBytes}
 use Rattle.std.specs.declared.result.Result.the-variants.{Ok, Err}
 use Rattle.std.proofs.shelf.Ascii.{ascii-nil, ascii-cons}
 use Rattle.std.proofs.shelf.Text.{utf8-from-ascii}
 use Rattle.std.specs.Text.{Ascii, Utf8}
-use Rattle.std.specs.declared.option.Option.{Option}
 use Rattle.std.specs.declared.option.Option.the-variants.{Some}
-use Rattle.std.specs.declared.result.Result.{Result}
 use Rattle.script.specs.declared.errors.ScriptError.{ScriptError}
-use Rattle.script.specs.declared.errors.ScriptError.the-variants.{CarriageReturn, NoSuchCommand, OutOfMemory}
-use Rattle.script.specs.declared.commands.Command.{Command}
-use Rattle.script.specs.Commands.{command-of, remark, has, word-of, pieces-of}
+use Rattle.script.specs.declared.errors.ScriptError.the-variants.{NoSuchCommand, OutOfMemory}
+use Rattle.script.specs.Commands.{Is-poke, command-of, remark, has, word-of, pieces-of}
 use Rattle.script.specs.Fields.{then}
 use Rattle.script.specs.Pieces.{first-piece, behind}
 
@@ -77,9 +74,10 @@ module _ (rest word : List ℕ) (is : word ≡ first-piece rest) (some : 0 < len
   pub no-text-line : (Utf8 word → ⊥) → Err NoSuchCommand ≡ pieces-of rest
   no-text-line no-text = ap (λ said. then said (λ command. Ok (Some command))) (no-text-word word no-text (behind rest)) ∙ sym at-piece
 
-  pub error-line : (e : ScriptError) (bs : List ℕ) → bs ≡ behind rest → (Err e ≡ command-of word bs) ⊎ (e ≡ OutOfMemory) → (Err e ≡ pieces-of rest) ⊎ (e ≡ OutOfMemory)
+  pub error-line : (e : ScriptError) (bs : List ℕ) → bs ≡ behind rest → (Err e ≡ command-of word bs) ⊎ ((e ≡ OutOfMemory) × Is-poke word)
+      → (Err e ≡ pieces-of rest) ⊎ ((e ≡ OutOfMemory) × Is-poke (first-piece rest))
   error-line e bs after said =
-      ⊎-elim (λ h. inl (ap (λ m. then m (λ command. Ok (Some command))) (h ∙ ap (command-of word) after) ∙ sym at-piece)) inr said
+      ⊎-elim (λ h. inl (ap (λ m. then m (λ command. Ok (Some command))) (h ∙ ap (command-of word) after) ∙ sym at-piece)) (λ h. inr (h .0, sym is ∙ h .1)) said
 
 -- an empty line is no remark
 pub empty-no-remark : (bs : List ℕ) (t : Bool) → t ≡ eqb (length bs) 0 → t ≡ true → not t ≡ remark bs

@@ -1,5 +1,5 @@
 -- The commands that a line spells.
-use mathlib.Core.Bool.{Bool, true, false, cond, _||_}
+use mathlib.Core.Bool.{Bool, false, cond, _||_}
 use mathlib.Core.List.{List, [], _∷_}
 use mathlib.Core.Logic.{_⊎_}
 use mathlib.Core.Path.{_≡_}
@@ -90,16 +90,20 @@ remark bs = eqb (getD bs 0 0) 35
 abbrev pub line-of : List ℕ → Result (Option Meaning) ScriptError
 line-of bs = cond (remark bs) (Ok None) (cond (has 13 bs) (Err CarriageReturn) (pieces-of bs))
 
--- what was read is what the line says; only want of memory is not for the line to say
-abbrev pub Means : Result Command ScriptError → Result Meaning ScriptError → Type 0
-Means (Ok command) said = Ok (meaning command) ≡ said
-Means (Err e) said = (Err e ≡ said) ⊎ (e ≡ OutOfMemory)
+-- what was read is what the line says; only where P holds may it be want of memory instead
+abbrev pub Means : Type 0 → Result Command ScriptError → Result Meaning ScriptError → Type 0
+Means P (Ok command) said = Ok (meaning command) ≡ said
+Means P (Err e) said = (Err e ≡ said) ⊎ ((e ≡ OutOfMemory) × P)
 
 abbrev pub meaning-of : Option Command → Option Meaning
 meaning-of (Some command) = Some (meaning command)
 meaning-of None = None
 
--- the same of a line that may have none
-abbrev pub Line-means : Result (Option Command) ScriptError → Result (Option Meaning) ScriptError → Type 0
-Line-means (Ok command) said = Ok (meaning-of command) ≡ said
-Line-means (Err e) said = (Err e ≡ said) ⊎ (e ≡ OutOfMemory)
+-- the same of a line, which may have no command
+abbrev pub Line-means : Type 0 → Result (Option Command) ScriptError → Result (Option Meaning) ScriptError → Type 0
+Line-means P (Ok command) said = Ok (meaning-of command) ≡ said
+Line-means P (Err e) said = (Err e ≡ said) ⊎ ((e ≡ OutOfMemory) × P)
+
+-- the word of the command that has bytes to keep
+abbrev pub Is-poke : List ℕ → Type 0
+Is-poke word = word ≡ codes "poke"

@@ -1,6 +1,7 @@
 // The command that a line of a script spells.
 ghost use mathlib.Core.Path.{_≡_};
-ghost use Rattle.script.specs.Commands.{Means, Line-means, remark, has, line-of, pieces-of, card-of, ram-of, boundary-of, poke-of, peek-of, command-of};
+ghost use Rattle.script.specs.Commands.{Means, Line-means, Is-poke, remark, has, line-of, pieces-of, card-of, ram-of, boundary-of, poke-of, peek-of, command-of};
+ghost use Rattle.script.specs.Pieces.{first-piece};
 use crate::errors::ScriptError;
 use crate::pieces::Pieces;
 use std::alloc::Global;
@@ -17,7 +18,7 @@ pub enum Command<'a> {
 
 impl<'a> Command<'a> {
     fn card(mut pieces: Pieces<'a>) -> Result<Command<'a>, ScriptError>
-        ensures { λ r. ⌜ Means r (card-of (now (pieces .entry .rest))) ⌝ }
+        ensures { λ r. ⌜ Means ⊥ r (card-of (now (pieces .entry .rest))) ⌝ }
     {
         let base = pieces.next_u32()?;
         let path = pieces.required()?;
@@ -26,7 +27,7 @@ impl<'a> Command<'a> {
     }
 
     fn ram(mut pieces: Pieces<'a>) -> Result<Command<'a>, ScriptError>
-        ensures { λ r. ⌜ Means r (ram-of (now (pieces .entry .rest))) ⌝ }
+        ensures { λ r. ⌜ Means ⊥ r (ram-of (now (pieces .entry .rest))) ⌝ }
     {
         let base = pieces.next_u32()?;
         let size = pieces.next_u32()?;
@@ -35,7 +36,7 @@ impl<'a> Command<'a> {
     }
 
     fn boundary(mut pieces: Pieces<'a>) -> Result<Command<'a>, ScriptError>
-        ensures { λ r. ⌜ Means r (boundary-of (now (pieces .entry .rest))) ⌝ }
+        ensures { λ r. ⌜ Means ⊥ r (boundary-of (now (pieces .entry .rest))) ⌝ }
     {
         let address = pieces.next_u32()?;
         pieces.end()?;
@@ -43,7 +44,7 @@ impl<'a> Command<'a> {
     }
 
     fn poke(heap: Global, mut pieces: Pieces<'a>) -> Result<Command<'a>, ScriptError>
-        ensures { λ r. ⌜ Means r (poke-of (now (pieces .entry .rest))) ⌝ }
+        ensures { λ r. ⌜ Means (Unit {0}) r (poke-of (now (pieces .entry .rest))) ⌝ }
     {
         let address = pieces.next_u32()?;
         let bytes = pieces.next_bytes(heap)?;
@@ -52,7 +53,7 @@ impl<'a> Command<'a> {
     }
 
     fn peek(mut pieces: Pieces<'a>) -> Result<Command<'a>, ScriptError>
-        ensures { λ r. ⌜ Means r (peek-of (now (pieces .entry .rest))) ⌝ }
+        ensures { λ r. ⌜ Means ⊥ r (peek-of (now (pieces .entry .rest))) ⌝ }
     {
         let address = pieces.next_u32()?;
         pieces.end()?;
@@ -60,9 +61,10 @@ impl<'a> Command<'a> {
     }
 }
 
-// The command of a line, without its line feed; a blank line and a remark have none.
+// The command of a line, without its line feed; a blank line and a remark have none. Only a poke, which keeps its
+// bytes, can find no memory.
 pub fn parse<'a>(heap: Global, line: &'a [u8]) -> Result<Option<Command<'a>>, ScriptError>
-    ensures { λ r. ⌜ Line-means r (line-of (now (line .entry))) ⌝ }
+    ensures { λ r. ⌜ Line-means (Is-poke (first-piece (now (line .entry)))) r (line-of (now (line .entry))) ⌝ }
 {
     if is_remark(line) {
         return Ok(None);
@@ -88,7 +90,7 @@ fn has_carriage_return(line: &[u8]) -> bool
 
 // The command that pieces spell, if there are any.
 fn read_pieces<'a>(heap: Global, mut pieces: Pieces<'a>) -> Result<Option<Command<'a>>, ScriptError>
-    ensures { λ r. ⌜ Line-means r (pieces-of (now (pieces .entry .rest))) ⌝ }
+    ensures { λ r. ⌜ Line-means (Is-poke (first-piece (now (pieces .entry .rest)))) r (pieces-of (now (pieces .entry .rest))) ⌝ }
 {
     let Some(word) = pieces.next() else {
         return Ok(None);
@@ -106,7 +108,7 @@ fn read_command<'a>(
     word: &str,
     pieces: Pieces<'a>,
 ) -> Result<Command<'a>, ScriptError>
-    ensures { λ r. ⌜ Means r (command-of (now (word .entry)) (now (pieces .entry .rest))) ⌝ }
+    ensures { λ r. ⌜ Means (Is-poke (now (word .entry))) r (command-of (now (word .entry)) (now (pieces .entry .rest))) ⌝ }
 {
     match word {
         "card" => Command::card(pieces),

@@ -3,7 +3,7 @@ use mathlib.Core.Path.{_≡_, sym, _∙_}
 use native.Mathlib.Omega.{arith}
 use Rattle.std.specs.Of.Vec.{vec-items}
 use Rattle.std.proofs.shelf.Tests.{cond-true, cond-false}
-use Rattle.memory.specs.Cards.{sound-at, sound-count}
+use Rattle.memory.specs.Cards.{sound-at}
 use Rattle.memory.proofs.Counting.{sound-from, unsound-from, count-none, count-more}
 use Rattle.memory.proofs.card.Card.sound_blocks.Needs as need
 use Rattle.memory.proofs.card.Card.sound_blocks.Needs.{in-Sound, in-Unsound}

@@ -1,10 +1,9 @@
 use mathlib.Core.Path.{_≡_, sym, ap, _∙_}
 use native.Mathlib.Omega.{arith}
-use Prim.Native.Nat.{_+_, _-_, _*_, _/_, _%_, _<_, _^_}
+use Prim.Native.Nat.{_+_, _-_, _*_, _/_, _%_}
 use lib.ListN.{take, drop}
 use Rattle.std.specs.Of.Vec.{vec-items}
 use Rattle.memory.specs.Halfwords.{halfword}
-use Rattle.memory.specs.Cards.{block, block-count}
 use Rattle.memory.proofs.Counting.{sound-from}
 use Rattle.memory.proofs.Reading.{reads-sound}
 use Rattle.memory.proofs.card.CardMemory.read.Needs as need
