@@ -1,23 +1,23 @@
 -- The laws of a card.
-use mathlib.Core.Bool.{true, false, cond, _&&_}
+use mathlib.Core.Bool.{true, false, cond}
 use mathlib.Core.List.{List}
 use mathlib.Core.Logic.{_⊎_, ⊎-elim}
 use mathlib.Core.Path.{_≡_, sym, ap, _∙_}
-use Prim.Native.Nat.{ℕ, _+_, _-_, _*_, _/_, _%_, _^_, _<_, _≤_, min}
+use Prim.Native.Nat.{ℕ, _+_, _-_, _*_, _/_, _%_, _<_, _≤_, min}
 use native.Mathlib.Omega.{arith}
-use lib.Dec.{eqb, ltb, leb}
+use lib.Dec.{eqb}
 use lib.ListN.{length, getD, take, drop}
 use Rattle.std.proofs.shelf.Lists.{getD-take, getD-drop, ext-getD, length-take}
-use Rattle.std.proofs.shelf.Tests.{ltb-true, leb-true, lt-ltb, le-leb, and-from, and-parts, cond-true, cond-false, cases-bool, cases-lt, cases-eq, eq-eqb}
+use Rattle.std.proofs.shelf.Tests.{and-parts, cond-true, cond-false, cases-lt, cases-eq, eq-eqb}
 use Rattle.std.specs.declared.result.Result.the-variants.{Err}
 use Rattle.memory.specs.Blocks.{sound, sums-hold, Sealed}
 use Rattle.memory.specs.Cards.{block, block-count, sound-at, data-outcome, card}
 use Rattle.memory.specs.Halfwords.{halfword, Bytes}
 use Rattle.memory.specs.Laws.{Altered-at, Damage-refused, Sealed-read-back, Sealed-pieces, Answers-as-flat, Card-laws}
-use Rattle.memory.specs.Memories.{in-reach, flat}
+use Rattle.memory.specs.Memories.{flat}
 use Rattle.memory.specs.Outcomes.{present, absent, unsound, even-answer}
 use Rattle.memory.specs.Refusals.{refusal}
-use Rattle.memory.proofs.Cards.{Shows-some, card-inside, card-outside, cases-shows, block-byte, block-past, block-bytes, length-block}
+use Rattle.memory.proofs.Cards.{Shows-some, shown-inside, shown-outside, card-inside, card-outside, cases-shows, block-byte, block-past, block-bytes, length-block}
 use Rattle.memory.proofs.Damage.{damage-shows}
 
 -- the halfword at byte j of block k
@@ -97,24 +97,6 @@ sealed-read-back base file k j payload within s l top =
     ∙ cond-true _ _ _ (s .is-sound)
     ∙ ap present (sealed-halfword k j payload (block file k) s l)
 
--- both bytes of the halfword at an address are among the bytes of flat memory
-abbrev Both-there : ℕ → List ℕ → ℕ → Type 0
-Both-there base bytes a = (base ≤ a) × (a < 2 ^ 32) × (a - base + 1 < length bytes)
-
-flat-inside : (base : ℕ) (bytes : List ℕ) (a : ℕ) → Both-there base bytes a → flat base bytes a ≡ present (halfword bytes (a - base))
-flat-inside base bytes a h =
-    cond-true _ _ _ (and-from _ _ (and-from _ _ (le-leb _ _ (h .0)) (lt-ltb _ _ (h .1))) (lt-ltb _ _ (h .2)))
-
-flat-outside : (base : ℕ) (bytes : List ℕ) (a : ℕ) → (Both-there base bytes a → ⊥) → flat base bytes a ≡ absent
-flat-outside base bytes a h =
-    ⊎-elim
-    (λ (e : (in-reach base a && ltb (a - base + 1) (length bytes)) ≡ true).
-    let parts = and-parts (in-reach base a) _ e in
-    let reach = and-parts (leb base a) _ (parts .0) in
-    absurd (h (leb-true _ _ (reach .0), ltb-true _ _ (reach .1), ltb-true _ _ (parts .1))))
-    (λ e. cond-false _ _ _ e)
-    (cases-bool (in-reach base a && ltb (a - base + 1) (length bytes)))
-
 -- the halfword at byte o of the data is in piece o / 504
 piece-halfword : (payload : List ℕ) (o : ℕ) → o % 504 + 1 < 504 → halfword (take 504 (drop (504 * (o / 504)) payload)) (o % 504) ≡ halfword payload o
 piece-halfword payload o l =
@@ -140,10 +122,10 @@ shows-as-flat base file even-base n payload s a even-address =
     card-inside base file a shows
     ∙ cond-true _ _ _ (piece .is-sound)
     ∙ ap present (sealed-halfword (o / 504) (o % 504) _ (block file (o / 504)) piece parity ∙ piece-halfword payload o parity)
-    ∙ sym (flat-inside base payload a (shows .0, shows .1, omega (arith, inside, parity, s .payload-long))))
+    ∙ sym (shown-inside base a (o + 1) (length payload) _ absent (shows .0, shows .1, omega (arith, inside, parity, s .payload-long))))
     (λ (none : Shows-some base file a → ⊥).
     card-outside base file a none
-    ∙ sym (flat-outside base payload a (λ there. none (there .0, there .1, omega (arith, count, there .2, s .payload-long)))))
+    ∙ sym (shown-outside base a (a - base + 1) (length payload) (present (halfword payload (a - base))) _ (λ there. none (there .0, there .1, omega (arith, count, there .2, s .payload-long)))))
     (cases-shows base file a)
 
 pub answers-as-flat : (base : ℕ) (file : List ℕ) → base % 2 ≡ 0 → Answers-as-flat base file (card base file)

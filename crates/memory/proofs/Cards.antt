@@ -1,5 +1,5 @@
 -- What a card shows, address by address.
-use mathlib.Core.Bool.{true, _&&_}
+use mathlib.Core.Bool.{true, cond, _&&_}
 use mathlib.Core.List.{List}
 use mathlib.Core.Logic.{_⊎_, inl, inr, ⊎-elim}
 use mathlib.Core.Path.{_≡_, ap, _∙_}
@@ -14,24 +14,34 @@ use Rattle.memory.specs.Halfwords.{Bytes}
 use Rattle.memory.specs.Memories.{in-reach}
 use Rattle.memory.specs.Outcomes.{absent}
 
+-- an address that a memory from this base on shows: 32 bits hold it, and what is asked of its place x lies below n
+abbrev pub Shown-at : ℕ → ℕ → ℕ → ℕ → Type 0
+Shown-at base a x n = (base ≤ a) × (a < 2 ^ 32) × (x < n)
+
+module _ {X : Type 0} (base a x n : ℕ) (p q : X) where
+  pub shown-inside : Shown-at base a x n → cond (in-reach base a && ltb x n) p q ≡ p
+  shown-inside h = cond-true _ _ _ (and-from _ _ (and-from _ _ (le-leb _ _ (h .0)) (lt-ltb _ _ (h .1))) (lt-ltb _ _ (h .2)))
+
+  pub shown-outside : (Shown-at base a x n → ⊥) → cond (in-reach base a && ltb x n) p q ≡ q
+  shown-outside h =
+      ⊎-elim
+      (λ (e : (in-reach base a && ltb x n) ≡ true).
+      let parts = and-parts (in-reach base a) _ e in
+      let reach = and-parts (leb base a) _ (parts .0) in
+      absurd (h (leb-true _ _ (reach .0), ltb-true _ _ (reach .1), ltb-true _ _ (parts .1))))
+      (λ e. cond-false _ _ _ e)
+      (cases-bool (in-reach base a && ltb x n))
+
 -- the address shows some block of a file
 abbrev pub Shows-some : ℕ → List ℕ → ℕ → Type 0
-Shows-some base file a = (base ≤ a) × (a < 2 ^ 32) × ((a - base) / 504 < block-count file)
+Shows-some base file a = Shown-at base a ((a - base) / 504) (block-count file)
 
 pub card-inside : (base : ℕ) (file : List ℕ) (a : ℕ) → Shows-some base file a
     → card base file a ≡ data-outcome file ((a - base) / 504) ((a - base) % 504)
-card-inside base file a h =
-    cond-true _ _ _ (and-from _ _ (and-from _ _ (le-leb _ _ (h .0)) (lt-ltb _ _ (h .1))) (lt-ltb _ _ (h .2)))
+card-inside base file a h = shown-inside base a _ _ _ _ h
 
 pub card-outside : (base : ℕ) (file : List ℕ) (a : ℕ) → (Shows-some base file a → ⊥) → card base file a ≡ absent
-card-outside base file a h =
-    ⊎-elim
-    (λ (e : (in-reach base a && ltb ((a - base) / 504) (block-count file)) ≡ true).
-    let parts = and-parts (in-reach base a) _ e in
-    let reach = and-parts (leb base a) _ (parts .0) in
-    absurd (h (leb-true _ _ (reach .0), ltb-true _ _ (reach .1), ltb-true _ _ (parts .1))))
-    (λ e. cond-false _ _ _ e)
-    (cases-bool (in-reach base a && ltb ((a - base) / 504) (block-count file)))
+card-outside base file a h = shown-outside base a _ _ _ _ h
 
 -- byte j of block k is byte 512 · k + j of the file
 pub block-byte : (file : List ℕ) (k j : ℕ) → j < 512 → getD (block file k) j 0 ≡ getD file (512 * k + j) 0

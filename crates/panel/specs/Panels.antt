@@ -47,18 +47,21 @@ pub record Only-boundary (address : ℕ) (before after : Panel) : Type 0 where
   pub ram : after .ram ≡ before .ram
   pub boundary : after .boundary ≡ address
 
--- each command: the panel before, the answer or the error, the panel after
+-- a card is put in: the answer counts its blocks and the sound ones; an error leaves the panel as it was
 abbrev pub Shows-card : ℕ → Panel → Result Answer ScriptError → Panel → Type 0
 Shows-card base before (Ok a) after = (a ≡ CardShown (block-count (card-file after)) (sound-count (card-file after) (block-count (card-file after)))) × Only-card base before after
 Shows-card base before (Err e) after = after ≡ before
 
+-- new RAM is given; an error says why there is none, and leaves the panel as it was
 abbrev pub Makes-ram : ℕ → ℕ → Panel → Result Answer ScriptError → Panel → Type 0
 Makes-ram base size before (Ok a) after = (a ≡ RamMade size) × Zeroed base size (after .ram) × Only-ram before after
 Makes-ram base size before (Err e) after = Not-made size e × (after ≡ before)
 
+-- the boundary is set, as given
 abbrev pub Sets-boundary : ℕ → Panel → Result Answer ScriptError → Panel → Type 0
 Sets-boundary address before r after = (r ≡ Ok (BoundarySet address)) × Only-boundary address before after
 
+-- bytes are written into the RAM, or none where it has not room for all of them
 abbrev pub Pokes : ℕ → List ℕ → Panel → Result Answer ScriptError → Panel → Type 0
 Pokes address new before (Ok a) after = (a ≡ BytesPoked (length new)) × Poked (before .ram) address new (after .ram) × Only-ram before after
 Pokes address new before (Err e) after = (e ≡ NotInsideRam) × (has-room (before .ram) address (length new) ≡ false) × (after ≡ before)
@@ -68,6 +71,7 @@ abbrev pub peeked : Result ℕ Refusal → Answer
 peeked (Ok h) = Halfword h
 peeked (Err e) = Refused (number e)
 
+-- a command: the panel before, the answer or the error, the panel after
 abbrev pub Does : Command → Panel → Result Answer ScriptError → Panel → Type 0
 Does (Card base path) before r after = Shows-card base before r after
 Does (Ram base size) before r after = Makes-ram base size before r after
