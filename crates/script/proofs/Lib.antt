@@ -1,5 +1,5 @@
 pub mod Forms
 pub mod Runs
 pub mod Spelling
-pub mod Twos
+pub mod DigitPairs
 pub mod Words

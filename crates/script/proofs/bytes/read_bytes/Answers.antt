@@ -7,7 +7,7 @@ use Rattle.std.proofs.Told.{chosen}
 use Rattle.std.proofs.shelf.Tests.{eqb-false}
 use Rattle.std.specs.Of.Vec.{vec-items}
 use Rattle.std.specs.Results.{isOk}
-use Rattle.script.proofs.Twos.{pairs-more, pairs-none, bytes-more, bytes-all}
+use Rattle.script.proofs.DigitPairs.{pairs-more, pairs-none, bytes-more, bytes-all}
 use Rattle.script.proofs.bytes.read_bytes.Needs as need
 
 pub returns-in-rest : need.returns-in-rest

@@ -16,22 +16,22 @@ use Rattle.script.specs.Numbers.{digit-value, all-digits}
 use Rattle.script.specs.Bytes.{pair-value, pair-of, are-pairs, spelled-bytes, bytes-of}
 use Rattle.script.proofs.Spelling.{digits-more, digits-none, digits-all}
 
-some-two : (a b d : ℕ) → Some d ≡ pair-of a b → ((ltb (digit-value a) 16 && ltb (digit-value b) 16) ≡ true) × (d ≡ pair-value a b)
-some-two a b d is = grind arith
+some-pair : (a b d : ℕ) → Some d ≡ pair-of a b → ((ltb (digit-value a) 16 && ltb (digit-value b) 16) ≡ true) × (d ≡ pair-value a b)
+some-pair a b d is = grind arith
 
-no-two : (a b : ℕ) → None ≡ pair-of a b → (ltb (digit-value a) 16 && ltb (digit-value b) 16) ≡ false
-no-two a b is = grind arith
+no-pair : (a b : ℕ) → None ≡ pair-of a b → (ltb (digit-value a) 16 && ltb (digit-value b) 16) ≡ false
+no-pair a b is = grind arith
 
 -- a function of what is left, one pair on
-two-more : {Y : Type 0} (F : List ℕ → Y) (bs : List ℕ) (i : ℕ) → 2 * i + 1 < length bs → F (drop (2 * i) bs) ≡ F (getD bs (2 * i) 0 ∷ getD bs (2 * i + 1) 0 ∷ drop (2 * (i + 1)) bs)
-two-more F bs i within =
+drop-pair : {Y : Type 0} (F : List ℕ → Y) (bs : List ℕ) (i : ℕ) → 2 * i + 1 < length bs → F (drop (2 * i) bs) ≡ F (getD bs (2 * i) 0 ∷ getD bs (2 * i + 1) 0 ∷ drop (2 * (i + 1)) bs)
+drop-pair F bs i within =
     let next : 2 * i + 1 + 1 ≡ 2 * (i + 1) = omega arith in
     ap F (drop-more bs (2 * i) 0 (omega arith) ∙ ap (λ l. getD bs (2 * i) 0 ∷ l) (drop-more bs (2 * i + 1) 0 within ∙ ap (λ n. getD bs (2 * i + 1) 0 ∷ drop n bs) next))
 
 module _ (bs : List ℕ) (i : ℕ) (within : 2 * i + 1 < length bs) where
   pub pairs-more : (d : ℕ) → all-digits 16 (drop (2 * i) bs) ≡ all-digits 16 bs → Some d ≡ pair-of (getD bs (2 * i) 0) (getD bs (2 * i + 1) 0) → all-digits 16 (drop (2 * (i + 1)) bs) ≡ all-digits 16 bs
   pairs-more d old is =
-      let both : (ltb (digit-value (getD bs (2 * i) 0)) 16 ≡ true) × (ltb (digit-value (getD bs (2 * i + 1) 0)) 16 ≡ true) = and-parts _ _ (some-two (getD bs (2 * i) 0) (getD bs (2 * i + 1) 0) d is .0) in
+      let both : (ltb (digit-value (getD bs (2 * i) 0)) 16 ≡ true) × (ltb (digit-value (getD bs (2 * i + 1) 0)) 16 ≡ true) = and-parts _ _ (some-pair (getD bs (2 * i) 0) (getD bs (2 * i + 1) 0) d is .0) in
       let next : 2 * (i + 1) ≡ 2 * i + 1 + 1 = omega arith in
       ap (λ n. all-digits 16 (drop n bs)) next ∙ digits-more 16 bs (2 * i + 1) within (digits-more 16 bs (2 * i) (omega arith) old (both .0)) (both .1)
 
@@ -43,7 +43,7 @@ module _ (bs : List ℕ) (i : ℕ) (within : 2 * i + 1 < length bs) where
       ⊎-elim
       (λ (off : ltb (digit-value (getD bs (2 * i) 0)) 16 ≡ false). digits-none 16 bs (2 * i) (omega arith) old off)
       (λ (low : ltb (digit-value (getD bs (2 * i + 1) 0)) 16 ≡ false). digits-none 16 bs (2 * i + 1) within (digits-more 16 bs (2 * i) (omega arith) old high) low)
-      (and-cases _ _ (no-two (getD bs (2 * i) 0) (getD bs (2 * i + 1) 0) is)))
+      (and-cases _ _ (no-pair (getD bs (2 * i) 0) (getD bs (2 * i + 1) 0) is)))
       (λ (off : ltb (digit-value (getD bs (2 * i) 0)) 16 ≡ false). digits-none 16 bs (2 * i) (omega arith) old off)
       (cases-bool (ltb (digit-value (getD bs (2 * i) 0)) 16)) in
       sym (cond-false _ _ _ (and-right _ _ none))
@@ -51,11 +51,11 @@ module _ (bs : List ℕ) (i : ℕ) (within : 2 * i + 1 < length bs) where
   pub bytes-more : (xs ys : List ℕ) (d : ℕ) → xs ++ spelled-bytes (drop (2 * i) bs) ≡ spelled-bytes bs → Some d ≡ pair-of (getD bs (2 * i) 0) (getD bs (2 * i + 1) 0) → ys ≡ xs ++ d ∷ []
       → ys ++ spelled-bytes (drop (2 * (i + 1)) bs) ≡ spelled-bytes bs
   bytes-more xs ys d old is pushed =
-      let value = some-two (getD bs (2 * i) 0) (getD bs (2 * i + 1) 0) d is .1 in
+      let value = some-pair (getD bs (2 * i) 0) (getD bs (2 * i + 1) 0) d is .1 in
       ap (λ l. l ++ spelled-bytes (drop (2 * (i + 1)) bs)) pushed
       ∙ append-assoc xs (d ∷ []) (spelled-bytes (drop (2 * (i + 1)) bs))
       ∙ ap (λ v. xs ++ v ∷ spelled-bytes (drop (2 * (i + 1)) bs)) value
-      ∙ sym (ap (λ l. xs ++ l) (two-more spelled-bytes bs i within))
+      ∙ sym (ap (λ l. xs ++ l) (drop-pair spelled-bytes bs i within))
       ∙ old
 
 pub bytes-all : (bs xs : List ℕ) (i : ℕ) → 0 < length bs → (length bs % 2 ≡ 1 → ⊥) → length bs / 2 ≤ i → all-digits 16 (drop (2 * i) bs) ≡ all-digits 16 bs
