@@ -1,5 +1,7 @@
 // Draws many spans of each drawing and prints columns per second: bench SPANS. With no argument it draws a few spans and
 // prints what they came to.
+#![tactic(auto)]
+
 mod jobs;
 mod report;
 mod sheet;

@@ -1,4 +1,6 @@
 // Memories: each means one outcome for every even address, and is read a halfword at a time.
+#![tactic(auto)]
+
 mod block;
 mod card;
 mod flat;

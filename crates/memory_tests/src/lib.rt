@@ -1,4 +1,6 @@
 // Worked examples and bad input for the memories, through their public calls.
+#![tactic(auto)]
+
 #[cfg(test)]
 mod card_tests;
 #[cfg(test)]

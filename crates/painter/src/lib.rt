@@ -1,4 +1,6 @@
 // The painter: what any drawing does to a scanline, column by column.
+#![tactic(auto)]
+
 mod ablit;
 mod affine;
 mod atile;

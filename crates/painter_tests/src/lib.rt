@@ -1,4 +1,6 @@
 // Worked examples, edges and random spans for the surfaces and the painter, through their public calls.
+#![tactic(auto)]
+
 #[cfg(test)]
 mod drawing_tests;
 #[cfg(test)]

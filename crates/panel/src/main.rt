@@ -1,4 +1,6 @@
 // Reads a script from standard input, one command a line, and prints what each command came to.
+#![tactic(auto)]
+
 ghost use Rattle.std.specs.Prelude.{◌≡◌, OnErr};
 
 mod files;

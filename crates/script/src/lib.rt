@@ -1,4 +1,6 @@
 // Scripts for the panel program: a line is read into a command.
+#![tactic(auto)]
+
 mod bytes;
 mod commands;
 mod errors;

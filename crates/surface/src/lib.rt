@@ -1,4 +1,6 @@
 // Colours, palettes, pixel formats, and surfaces that mean a colour at every place.
+#![tactic(auto)]
+
 mod colour;
 mod fault;
 mod format;

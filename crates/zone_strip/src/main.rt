@@ -1,5 +1,7 @@
 // Draws the zone marks of a bus line's stops from a card: the tile map and the tiles are the card's, the colours are
 // set here. With --picture it writes a picture instead.
+#![tactic(auto)]
+
 mod help;
 mod picture;
 mod strip;
