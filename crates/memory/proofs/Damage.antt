@@ -1,5 +1,5 @@
 -- One altered halfword makes a block unsound.
-use Rattle.std.proofs.Common.{◌≡◌, ℕ, zero, suc, ◌+◌, ◌*◌, ◌<◌, ◌≤◌, true, ◌⊎◌, List, get_or, sym, ◌∙◌, subst, ⊎_elim, arith}
+use Rattle.std.proofs.Common.{◌≡◌, ℕ, zero, suc, ◌+◌, ◌*◌, ◌<◌, ◌≤◌, true, List, get_or, sym, ◌∙◌, subst, ⊎_elim, arith}
 use Rattle.std.proofs.lemmas.Bool.{eqb-true, and_parts, and_left, cases_eq, cases_Bool, cases_lt}
 use Rattle.memory.specs.Blocks.{first_sum, second_sum, sums_hold}
 use Rattle.memory.specs.Halfwords.{halfword, Bytes}

@@ -15,8 +15,8 @@ returns c =
     let t = c.sums-s1.result.1 in
     let first = c.sums-s1.ensures.first in
     let second = c.sums-s1.ensures.second in
-    let written : c.put-halfword-2.new.block ≡ put (put b 508 s) 510 t =
-    c.put-halfword-2.ensures ∙ ap (λ x. put x 510 t) c.put-halfword.ensures in
+    let written : c.put_halfword-2.new.block ≡ put (put b 508 s) 510 t =
+    c.put_halfword-2.ensures ∙ ap (λ x. put x 510 t) c.put_halfword.ensures in
     let bytes : Bytes (put (put b 508 s) 510 t) =
     bytes_put (put b 508 s) 510 t (bytes_put b 508 s c.fits-block (omega (arith, first, first_sum_small b 254)))
     (omega (arith, second, second_sum_small b 254)) in

@@ -4,8 +4,8 @@ use Rattle.memory.proofs.block.with_data.Goals as goal
 
 pub returns : goal.returns
 returns c =
-    let front = c.copy-from-slice.new.self in
+    let front = c.copy_from_slice.new.self in
     record {
-      whole = simp length-append (omega (arith, c.copy-from-slice.ensures.len));
-      holds = take_at front _ 504 c.copy-from-slice.ensures.len ∙ c.copy-from-slice.ensures.after;
+      whole = simp length-append (omega (arith, c.copy_from_slice.ensures.len));
+      holds = take_at front _ 504 c.copy_from_slice.ensures.len ∙ c.copy_from_slice.ensures.after;
     }

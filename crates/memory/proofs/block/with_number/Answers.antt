@@ -7,12 +7,12 @@ use Rattle.memory.proofs.block.with_number.Goals as goal
 
 pub returns : goal.returns
 returns c =
-    let b = c.with-data-block.result in
+    let b = c.with_data-block.result in
     let k = c.args.number in
-    let written : c.put-halfword-2.new.block ≡ put (put b 504 (k % 65536)) 506 (k / 65536) =
-    c.put-halfword-2.ensures ∙ ap (λ x. put x 506 (k / 65536)) c.put-halfword.ensures in
+    let written : c.put_halfword-2.new.block ≡ put (put b 504 (k % 65536)) 506 (k / 65536) =
+    c.put_halfword-2.ensures ∙ ap (λ x. put x 506 (k / 65536)) c.put_halfword.ensures in
     record {
-      carries = ap stored_number written ∙ number_put b k c.with-data-block.ensures.whole;
+      carries = ap stored_number written ∙ number_put b k c.with_data-block.ensures.whole;
       holds = ap (take 504) written ∙ take-put 504 (put b 504 (k % 65536)) 506 (k / 65536) (omega arith)
-          ∙ take-put 504 b 504 (k % 65536) (omega arith) ∙ c.with-data-block.ensures.holds;
+          ∙ take-put 504 b 504 (k % 65536) (omega arith) ∙ c.with_data-block.ensures.holds;
     }

@@ -6,7 +6,7 @@ pub loop-k-preserved : goal.loop-k-preserved
 loop-k-preserved c =
     let k = c.loop-k.k in
     let wide : (512 * k + 512) - 512 * k ≡ 512 = omega arith in
-    let here = c.check-block.ensures ∙ ap (λ w. state (take w (drop (512 * k) c.args.file.now)) k) wide in (
+    let here = c.check_block.ensures ∙ ap (λ w. state (take w (drop (512 * k) c.args.file.now)) k) wide in (
       simp length-set c.loop-k.invariant.0,
       below_more _ _
           (λ i h. let ne : i ≢ k = omega arith in rw get_or-set_other (c.loop-k.invariant.1 i h))

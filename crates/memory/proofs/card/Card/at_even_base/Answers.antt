@@ -8,5 +8,5 @@ returns c =
     record {
       outcome = refl;
       file = refl;
-      laws = card_laws c.args.base _ c.requires (subst Bytes c.as-slice.ensures.value c.check-blocks-states.ensures.bytes);
+      laws = card_laws c.args.base _ c.requires (subst Bytes c.as_slice.ensures.value c.check_blocks-states.ensures.bytes);
     }

@@ -12,7 +12,7 @@ pub loop-k-preserved : goal.loop-k-preserved
 loop-k-preserved c =
     let file = vec_items c.args.self.now.file in
     let k = c.loop-k.k in
-    elim c.match-state-of.branch [
+    elim c.match-state_of.branch [
       | in-Sound w ↦
           let is : sound_at file k ≡ true = sound_from _ (sym w.in-Sound.ensures) in
           let more = count_more file k ∙ cond-true _ _ _ is in
