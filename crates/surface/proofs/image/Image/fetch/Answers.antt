@@ -10,5 +10,5 @@ returns g c =
     let i = c.args.self.now in
     let m = g.M.Memory.outcome c.args.memory.now in
     let palette = colours c.args.palette.now in
-    let e = c.pixel-at.ensures ∙ ap (λ s. colour_of m palette (image_lookup g.F.PixelFormat.layout i.poff i.image s (c.args.u % s) (c.args.v % s))) c.side-side.ensures.value in
+    let e = c.pixel_at.ensures ∙ ap (λ s. colour_of m palette (image_lookup g.F.PixelFormat.layout i.poff i.image s (c.args.u % s) (c.args.v % s))) c.side-side.ensures.value in
     record { value = e; needs = answer_by_needs m palette _ _ e }

@@ -11,5 +11,5 @@ returns g c =
     let m = g.M.Memory.outcome c.args.memory.now in
     let palette = colours c.args.palette.now in
     let lookup = tile_lookup g.F.PixelFormat.layout f.poff f.tilemap f.tileset (tile_side f.s) (field_side f.pfs) in
-    let e = c.pixel-in-tile.ensures ∙ ap (λ s. colour_of m palette (lookup (c.args.u % s) (c.args.v % s))) c.side-side.ensures.value in
+    let e = c.pixel_in_tile.ensures ∙ ap (λ s. colour_of m palette (lookup (c.args.u % s) (c.args.v % s))) c.side-side.ensures.value in
     record { value = e; needs = answer_by_needs m palette _ _ e }

@@ -8,5 +8,5 @@ returns-in-Ok g c =
     let f = c.args.self.now in
     index_then (g.M.Memory.outcome c.args.memory.now) (colours c.args.palette.now)
     (tile_pixel g.F.PixelFormat.layout f.poff f.tileset (tile_side f.s) c.args.u c.args.v)
-    _ c.place-of-index-place.result c.in-Ok.halfword c.byte-of.result c.pixel-of-tile.result
-    c.place-of-index-place.ensures c.in-Ok.ensures c.byte-of.ensures c.pixel-of-tile.ensures
+    _ c.place_of_index-place.result c.in-Ok.halfword c.byte_of.result c.pixel_of_tile.result
+    c.place_of_index-place.ensures c.in-Ok.ensures c.byte_of.ensures c.pixel_of_tile.ensures
