@@ -5,8 +5,6 @@ use Rattle.memory.specs.Outcomes.{Outcome}
 use Rattle.surface.specs.declared.format.Format.{Format}
 use Rattle.surface.specs.Formats.{layout_of}
 use Rattle.surface.specs.Lookups.{Lookup}
-use Rattle.painter.specs.declared.ablit.Ablit as ablit
-use Rattle.painter.specs.declared.atile.Atile as atile
 use Rattle.painter.specs.declared.blit.Blit as blit
 use Rattle.painter.specs.declared.tile.Tile as tile
 use Rattle.painter.specs.declared.clip.Clip.{Clip}

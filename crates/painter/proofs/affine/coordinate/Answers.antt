@@ -7,8 +7,8 @@ pub returns : goal.returns
 returns c =
     let a = c.args.a in
     let b = c.args.b in
-    let s = c.weighted-sum-sum.result in
-    let r = c.rem-euclid-part.result in
+    let s = c.weighted_sum-sum.result in
+    let r = c.rem_euclid-part.result in
     let ea : to_z w32 (of_z w32 (to_z w16 (of_z w16 a))) ≡ a = omega (arith, ints) in
     let eb : to_z w32 (of_z w32 (to_z w16 (of_z w16 b))) ≡ b = omega (arith, ints) in
     let ex : to_z w32 (of_z w32 c.args.dx) ≡ c.args.dx = omega (arith, ints) in
@@ -17,4 +17,4 @@ returns c =
     let es : to_z w32 (of_z w32 s) ≡ s = omega (arith, ints) in
     let er : to_z w32 (of_z w32 r) ≡ r = omega (arith, ints) in
     ap (λ z. nat_abs z / 256) er
-    ∙ coordinate_is a b c.args.c c.args.dx c.args.dy s r (simp (ea, eb, ex, ey, ec) at c.weighted-sum-sum.ensures) (simp es at c.rem-euclid-part.ensures.value)
+    ∙ coordinate_is a b c.args.c c.args.dx c.args.dy s r (simp (ea, eb, ex, ey, ec) at c.weighted_sum-sum.ensures) (simp es at c.rem_euclid-part.ensures.value)

@@ -7,4 +7,4 @@ use Rattle.painter.proofs.affine.uniform.Goals as goal
 pub returns : goal.returns
 returns c =
     let e : to_z w16 (of_z w16 c.args.scale) ≡ c.args.scale = omega (arith, ints) in
-    record { value = ap scaled e; changes-nothing = λ one. scale_of_one _ (e ∙ one) }
+    record { value = ap scaled e; changes_nothing = λ one. scale_of_one _ (e ∙ one) }

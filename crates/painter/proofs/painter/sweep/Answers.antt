@@ -21,8 +21,8 @@ loop-x-preserved-in-Ok g c =
     let place = g.P.Mapping.place c.args.mapping.now c.args.y in
     let side = g.S.Surface.side c.args.surface.now in
     let lookup = g.S.Surface.lookup c.args.surface.now in
-    let column = placed_column memory palette place side lookup c.loop-x.line c.paint-column.new.line x c.in-Some.at _ c.in-Some.ensures c.in-Ok.ensures.answer c.in-Ok.ensures.after in
-    (omega arith, omega arith, range_paints _ _ _ _ c.loop-x.line c.paint-column.new.line x c.loop-x.invariant.0 c.loop-x-test.true c.loop-x.invariant.2 column)
+    let column = placed_column memory palette place side lookup c.loop-x.line c.paint_column.new.line x c.in-Some.at _ c.in-Some.ensures c.in-Ok.ensures.answer c.in-Ok.ensures.after in
+    (omega arith, omega arith, range_paints _ _ _ _ c.loop-x.line c.paint_column.new.line x c.loop-x.invariant.0 c.loop-x-test.true c.loop-x.invariant.2 column)
 
 pub returns-in-Err : goal.returns-in-Err
 returns-in-Err g c =
@@ -32,8 +32,8 @@ returns-in-Err g c =
     let place = g.P.Mapping.place c.args.mapping.now c.args.y in
     let side = g.S.Surface.side c.args.surface.now in
     let lookup = g.S.Surface.lookup c.args.surface.now in
-    let column = placed_column memory palette place side lookup c.loop-x.line c.paint-column.new.line x c.in-Some.at _ c.in-Some.ensures c.in-Err.ensures.answer c.in-Err.ensures.after in
-    let e = range_stops _ _ _ _ c.loop-x.line c.paint-column.new.line x 512 c.in-Err.refusal c.loop-x.invariant.0 c.loop-x-test.true (omega arith) c.loop-x.invariant.2 column in
+    let column = placed_column memory palette place side lookup c.loop-x.line c.paint_column.new.line x c.in-Some.at _ c.in-Some.ensures c.in-Err.ensures.answer c.in-Err.ensures.after in
+    let e = range_stops _ _ _ _ c.loop-x.line c.paint_column.new.line x 512 c.in-Err.refusal c.loop-x.invariant.0 c.loop-x-test.true (omega arith) c.loop-x.invariant.2 column in
     record { answer = sym (ap (λ (p : Painting). p.0) e); after = sym (ap (λ (p : Painting). p.1) e) }
 
 pub loop-x-preserved : goal.loop-x-preserved
@@ -45,5 +45,5 @@ loop-x-preserved g c =
     let side = g.S.Surface.side c.args.surface.now in
     let lookup = g.S.Surface.lookup c.args.surface.now in
     let n = c.min-x.result in
-    let s = c.columns_outside_lem.result in
-    (omega arith, omega arith, range_passes _ _ _ _ c.loop-x.line x n (omega arith) c.loop-x.invariant.2 (columns_outside_lem memory palette place side lookup x n s c.in-None.ensures c.columns_outside_lem.ensures.outside (omega arith)))
+    let s = c.columns_outside.result in
+    (omega arith, omega arith, range_passes _ _ _ _ c.loop-x.line x n (omega arith) c.loop-x.invariant.2 (columns_outside_lem memory palette place side lookup x n s c.in-None.ensures c.columns_outside.ensures.outside (omega arith)))
