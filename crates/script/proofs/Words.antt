@@ -1,5 +1,5 @@
 -- Command words, and what a line with none of them means.
-use Rattle.std.proofs.Common.{◌≡◌, ℕ, ◌<◌, Bool, true, false, not, ◌&&◌, eqb, ltb, ◌⊎◌, List, [], ◌∷◌, length, Some, Ok, Err, codes, IsUtf8, IsAscii, Decides, sym, refl, ap, ◌∙◌, subst, inl, inr, ⊎_elim, arith}
+use Rattle.std.proofs.Common.{◌≡◌, ℕ, ◌<◌, Bool, true, false, not, ◌&&◌, eqb, ltb, ◌⊎◌, List, [], ◌∷◌, length, Some, Ok, Err, codes, IsUtf8, IsAscii, sym, refl, ap, ◌∙◌, subst, inl, inr, ⊎_elim, arith}
 use Rattle.std.proofs.lemmas.List.Elements.{contains_decides}
 use Rattle.std.proofs.lemmas.Slice.Eq.{bytes_eq-Decides}
 use Rattle.std.proofs.lemmas.Bool.{false≢true, eqb-true, and_parts, ltb-true}
@@ -29,7 +29,7 @@ no_command word bs card ram boundary poke peek =
     rw (e1, e2, e3, e4, e5) refl
 
 -- what `contains` answers
-pub has_is : (b : ℕ) (xs : List ℕ) (r : Bool) → IsAnyAnswer (λ y t. Decides t (y ≡ b)) xs r → r ≡ has b xs
+pub has_is : (b : ℕ) (xs : List ℕ) (r : Bool) → IsAnyAnswer (λ y t. eqb y b ≡ t) xs r → r ≡ has b xs
 has_is b xs r h = same_from_decides r (has b xs) (contains_decides eqb Decides-eqb xs b r h) (Decides-by_or (λ x. eqb x b) (λ x. x ≡ b) (has b) (λ x. Decides-eqb x b) refl (λ _ _. refl) xs)
 
 abbrev all_small : List ℕ → Bool

@@ -1,5 +1,5 @@
 -- A line cut at its spaces.
-use Rattle.std.specs.Prelude.{ℕ, ◌-◌, Bool, true, false, cond, not, List, take, drop, ◌==◌}
+use Rattle.std.specs.Prelude.{ℕ, Bool, true, false, cond, not, List, take, drop, ◌==◌}
 use Rattle.std.specs.List.{prefix_len}
 
 -- a byte is a space, or is none

@@ -49,7 +49,7 @@ fn bytes_are_read(rt: HostRuntime) -> Result<(), Fail> {
     let Ok(bytes) = read_bytes(heap, b"0aFf") else {
         return Err(Fail::new("bytes were not read"));
     };
-    assert!(rt; bytes.as_slice() == [10, 255]);
+    assert!(rt; bytes.as_slice() == [10, 255].as_slice());
     assert!(rt; read_bytes(heap, b"123").is_err());
     assert!(rt; read_bytes(heap, b"1g").is_err());
     Ok(())
@@ -109,7 +109,7 @@ fn a_very_long_line(rt: HostRuntime) -> Result<(), Fail> {
         Ok(Some(Command::Peek { address })) => {
             assert_eq!(rt; address, 16);
             Ok(())
-        },
+        }
         _ => Err(Fail::new("the command was not read")),
     }
 }

@@ -4,8 +4,8 @@ use Rattle.std.proofs.lemmas.Bool.{eqb-false}
 use Rattle.script.proofs.DigitPairs.{pairs_more, pairs_none, bytes_more, bytes_all}
 use Rattle.script.proofs.bytes.read_bytes.Goals as goal
 
-pub returns-in-default : goal.returns-in-default
-returns-in-default c = inl (pairs_none c.args.piece.now c.loop-i.i (omega arith) c.loop-i.invariant.0 c.in-default.ensures)
+pub returns-in_default : goal.returns-in_default
+returns-in_default c = inl (pairs_none c.args.piece.now c.loop-i.i (omega arith) c.loop-i.invariant.0 c.in_default.ensures)
 
 pub loop-i-preserved : goal.loop-i-preserved
 loop-i-preserved c =
@@ -19,5 +19,5 @@ loop-i-preserved c =
 
 pub returns : goal.returns
 returns c =
-    inl (bytes_all c.args.piece.now (vec_items c.loop-i.bytes) c.loop-i.i (omega (arith, eqb-false _ 0 (sym c.if-is-empty.ensures))) c.if-piece-eq1.false
+    inl (bytes_all c.args.piece.now (vec_items c.loop-i.bytes) c.loop-i.i (omega (arith, eqb-false _ 0 (sym c.if-is_empty.ensures))) c.if-piece-eq1.false
     c.loop-i-test.false c.loop-i.invariant.0 c.loop-i.invariant.1)

@@ -3,12 +3,12 @@ use Rattle.std.proofs.lemmas.Bool.{eqb-false}
 use Rattle.script.proofs.Spelling.{size_more, some_digit, no_digit, digits_more, digits_none, digits_all, size_none, size_all}
 use Rattle.script.proofs.numbers.size.Goals as goal
 
-pub returns-in-default : goal.returns-in-default
-returns-in-default c =
+pub returns-in_default : goal.returns-in_default
+returns-in_default c =
     let radix = c.args.radix in
     let digits = c.args.digits.now in
     let i = c.loop-byte.byte-index in
-    size_none radix digits (digits_none radix digits i c.loop-byte-test.true c.loop-byte.invariant.1 (no_digit radix (get_or digits i 0) c.in-default.ensures.value))
+    size_none radix digits (digits_none radix digits i c.loop-byte-test.true c.loop-byte.invariant.1 (no_digit radix (get_or digits i 0) c.in_default.ensures.value))
 
 pub loop-byte-preserved : goal.loop-byte-preserved
 loop-byte-preserved c =
@@ -25,5 +25,5 @@ returns c =
     let radix = c.args.radix in
     let digits = c.args.digits.now in
     let i = c.loop-byte.byte-index in
-    size_all radix digits i c.loop-byte.size c.loop-byte-test.false (omega (arith, eqb-false _ 0 (sym c.if-is-empty.ensures))) c.loop-byte.invariant.0
+    size_all radix digits i c.loop-byte.size c.loop-byte-test.false (omega (arith, eqb-false _ 0 (sym c.if-is_empty.ensures))) c.loop-byte.invariant.0
     (digits_all radix digits i c.loop-byte-test.false c.loop-byte.invariant.1)
