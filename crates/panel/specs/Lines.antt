@@ -16,4 +16,4 @@ before_feed bs = prefix_len no_feed bs
 
 -- of the bytes at hand: how many belong to the line, its line feed included, and whether the line or the input ends there
 abbrev pub line_end : List ℕ → ℕ × Bool
-line_end bs = cond (nat_lt (before_feed bs) (length bs)) (before_feed bs + 1, true) (length bs, (length bs == 0))
+line_end bs = cond (nat_lt (before_feed bs) (length bs)) (before_feed bs + 1, true) (length bs, length bs == 0)

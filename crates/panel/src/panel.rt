@@ -30,7 +30,7 @@ pub(crate) enum Answer {
 impl Panel {
     // A card with no blocks, a RAM of no bytes, the boundary at 0.
     pub(crate) fn new(heap: Global) -> Panel
-        ensures { (result.boundary ≡ 0) × ((card_file result ≡ []) × ((result.ram.base ≡ 0) × (result.ram.bytes.items ≡ []))) }
+        ensures { (result.boundary ≡ 0) × (card_file result ≡ []) × (result.ram.base ≡ 0) × (result.ram.bytes.items ≡ []) }
     {
         let card = Card::new(0, Vec::new(heap));
         let ram = Ram::empty(heap);

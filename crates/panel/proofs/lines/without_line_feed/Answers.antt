@@ -6,5 +6,5 @@ none : (bs : List ℕ) → length bs ≡ 0 → bs ≡ without_feed bs
 none [] e = refl
 none (b ∷ bs) e = absurd (omega arith)
 
-pub returns-in-default : goal.returns-in-default
-returns-in-default c = none c.args.line.now (omega (arith, ltb-true))
+pub returns-in_default : goal.returns-in_default
+returns-in_default c = none c.args.line.now (omega (arith, ltb-true))

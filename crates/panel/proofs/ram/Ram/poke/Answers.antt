@@ -12,7 +12,7 @@ loop-i-preserved c =
     let ram = c.args.self.now in
     let new = c.args.bytes.now in
     let long : length (vec_items ram.bytes) ≡ vec_len ram.bytes = search rules in
-    let wide = room ram.base c.len.result c.args.address (length new) c.if-not-is-inside.ensures in (
+    let wide = room ram.base c.len.result c.args.address (length new) c.if-not-is_inside.ensures in (
       poked_more (vec_items ram.bytes) new (c.args.address - ram.base) c.loop-i.i _ c.loop-i.invariant.0 (omega (arith, wide, c.len.ensures)) c.loop-i-test.true,
       c.loop-i.invariant.1,
       c.loop-i.invariant.2,
@@ -23,7 +23,7 @@ returns c =
     let ram = c.args.self.now in
     let new = c.args.bytes.now in
     let is : true ≡ inside ram.base (vec_len ram.bytes) c.args.address (length new) =
-    c.if-not-is-inside.ensures ∙ ap (λ n. inside ram.base n c.args.address (length new)) c.len.ensures in
+    c.if-not-is_inside.ensures ∙ ap (λ n. inside ram.base n c.args.address (length new)) c.len.ensures in
     record {
       room = sym is;
       same_base = c.loop-i.invariant.2;
