@@ -255,8 +255,7 @@ class Table(Flat):
 
 TABLE = """\
 // Random spans with what they must come to; made by tools/painter_model.py, which has a painter of its own.
-use surface::Format;
-use surface::Reading;
+use surface::{Format, Reading};
 
 // The line number, and the start and end of the clip.
 pub(crate) type Span = (u16, u16, u16);

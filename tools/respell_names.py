@@ -46,8 +46,10 @@ write-at write-at-index write-at-other write-at-same write-at-set zero-times
 # Local names of proofs.
 LOCALS = "at-508 at-510 below-one-more even-address in-file line-feed ne-high ne-low not-later"
 
-# Lemmas whose names join the names of two definitions by a dash, and one that would have its function's name.
+# A fact that port.py spells like a word, lemmas whose names join the names of two definitions by a dash, and one that would
+# have its function's name.
 OTHERS = {
+    "Goes_on": "GoesOn",
     "halfword-put-same": "halfword-put_same",
     "halfword-put-other": "halfword-put_other",
     "take_put": "take-put",

@@ -7,7 +7,7 @@ use Rattle.surface.specs.Lookups.{colour_of, refusal_in, needs, first_refused}
 use Rattle.surface.proofs.Lookups.{refused_by_needs}
 use Rattle.painter.specs.declared.painter.SpanRefusal.{SpanRefusal}
 use Rattle.painter.specs.Spans.{Effect, keep, put, stop, Span, in_clip, placed, effect_of, effect_at, painted}
-use Rattle.painter.specs.SpanLaws.{pixel_after, Goes_on, reach, Pointwise, KeepsOutside, refused_need, RefusedByNeeds, Paints}
+use Rattle.painter.specs.SpanLaws.{pixel_after, GoesOn, reach, Pointwise, KeepsOutside, refused_need, RefusedByNeeds, Paints}
 use Rattle.painter.proofs.Pointwise.{pointwise, length-painted, painted_again}
 
 -- the refusal with which an effect stops, if it does
@@ -24,7 +24,7 @@ stop_of_colour : (r : Result ℕ Fault) → stop_in (effect_of r) ≡ refusal_in
 stop_of_colour (Ok colour) = opaque_goes_on (opaque colour) (painted_pixel colour)
 stop_of_colour (Err fault) = refl
 
-goes_on_none : (e : Effect) → Goes_on e → stop_in e ≡ None
+goes_on_none : (e : Effect) → GoesOn e → stop_in e ≡ None
 goes_on_none keep h = refl
 goes_on_none (put pixel) h = refl
 goes_on_none (stop fault) h = absurd h
@@ -57,7 +57,7 @@ module _ (s : Span) where
   stops_by_needs : (x : ℕ) → stop_in (effect_at s x) ≡ refused_need s x
   stops_by_needs x = needs_by (in_clip s.clip x) (s.place x)
 
-  goes_on_by_needs : (x : ℕ) → Goes_on (effect_at s x) → refused_need s x ≡ None
+  goes_on_by_needs : (x : ℕ) → GoesOn (effect_at s x) → refused_need s x ≡ None
   goes_on_by_needs x h = sym (stops_by_needs x) ∙ goes_on_none (effect_at s x) h
 
   refusal_by_needs : (before after : List ℕ) (r : Result Unit SpanRefusal) → Pointwise 512 (effect_at s) before after r → RefusedByNeeds s r

@@ -4,20 +4,20 @@ use Rattle.surface.specs.Lists.{write_at}
 use Rattle.surface.proofs.Lists.{write_at_set, write_at_same, write_at_other}
 use Rattle.painter.specs.declared.painter.SpanRefusal.{SpanRefusal}
 use Rattle.painter.specs.Spans.{Effect, keep, put, stop, with_effect, then_column, painted_below}
-use Rattle.painter.specs.SpanLaws.{pixel_after, Goes_on, Pointwise}
+use Rattle.painter.specs.SpanLaws.{pixel_after, GoesOn, Pointwise}
 use Rattle.painter.proofs.Painting.{refused_to}
 
 module _ (f : ℕ → Effect) (l : List ℕ) where
   -- one column more, by its effect
   by_effect : (a : List ℕ) (n : ℕ) (e : Effect) → f n ≡ e → Pointwise n f l a (Ok tt) → Pointwise (suc n) f l (with_effect a n e).1 (with_effect a n e).0
   by_effect a n keep e p = record {
-    goes_on = λ x h. below_one_more (λ y. Goes_on (f y)) n p.goes_on (subst Goes_on (sym e) tt) x (omega arith);
+    goes_on = λ x h. below_one_more (λ y. GoesOn (f y)) n p.goes_on (subst GoesOn (sym e) tt) x (omega arith);
     left = λ x h. below_one_more (λ y. get_or a y 0 ≡ pixel_after (f y) (get_or l y 0)) n p.left (p.right n (omega arith) ∙ rw e refl) x (omega arith);
     right = λ x h. p.right x (omega arith);
     stops_there = tt;
   }
   by_effect a n (put v) e p = record {
-    goes_on = λ x h. below_one_more (λ y. Goes_on (f y)) n p.goes_on (subst Goes_on (sym e) tt) x (omega arith);
+    goes_on = λ x h. below_one_more (λ y. GoesOn (f y)) n p.goes_on (subst GoesOn (sym e) tt) x (omega arith);
     left = λ x h. below_one_more (λ y. get_or (write_at a n v) y 0 ≡ pixel_after (f y) (get_or l y 0)) n
         (λ y i. write_at_other a n v y (omega arith) ∙ p.left y i)
         (write_at_same a n v ∙ rw e refl) x (omega arith);
@@ -66,12 +66,12 @@ write_same (x ∷ xs) (suc i) v h e = ap (λ r. x ∷ r) (write_same xs i v (ome
 
 -- painting a painted line
 module _ (f : ℕ → Effect) (l a : List ℕ) where
-  one_again : (n : ℕ) (e : Effect) → n < length a → Goes_on e → get_or a n 0 ≡ pixel_after e (get_or l n 0) → with_effect a n e ≡ (Ok tt, a)
+  one_again : (n : ℕ) (e : Effect) → n < length a → GoesOn e → get_or a n 0 ≡ pixel_after e (get_or l n 0) → with_effect a n e ≡ (Ok tt, a)
   one_again n keep h go is = refl
   one_again n (put v) h go is = ap (λ (k : List ℕ). (Ok tt, k)) (write_same a n v h is)
   one_again n (stop fault) h go is = absurd go
 
-  columns_again : (n : ℕ) → n ≤ length a → ((x : ℕ) → x < n → Goes_on (f x)) → ((x : ℕ) → x < n → get_or a x 0 ≡ pixel_after (f x) (get_or l x 0))
+  columns_again : (n : ℕ) → n ≤ length a → ((x : ℕ) → x < n → GoesOn (f x)) → ((x : ℕ) → x < n → get_or a x 0 ≡ pixel_after (f x) (get_or l x 0))
       → painted_below f a n ≡ (Ok tt, a)
   unfolding painted_below
   columns_again zero h go is = refl

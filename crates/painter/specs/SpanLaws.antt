@@ -12,10 +12,10 @@ pixel_after (put new) pixel = new
 pixel_after (stop fault) pixel = pixel
 
 -- an effect that does not stop
-abbrev pub Goes_on : Effect → Type 0
-Goes_on keep = Unit {0}
-Goes_on (put new) = Unit {0}
-Goes_on (stop fault) = ⊥
+abbrev pub GoesOn : Effect → Type 0
+GoesOn keep = Unit {0}
+GoesOn (put new) = Unit {0}
+GoesOn (stop fault) = ⊥
 
 -- of n columns, how many were painted: all, or those left of the refused one
 abbrev pub reach : ℕ → Result Unit SpanRefusal → ℕ
@@ -30,7 +30,7 @@ StopsThere n effect (Err refusal) = (refusal.column < n) × (effect refusal.colu
 -- n columns of a line, each by itself: left of the reach every column has its effect and none stops; from there on the
 -- line is as it was
 pub record Pointwise (n : ℕ) (effect : ℕ → Effect) (before after : List ℕ) (r : Result Unit SpanRefusal) : Type 0 where
-  pub goes_on : (x : ℕ) → x < reach n r → Goes_on (effect x)
+  pub goes_on : (x : ℕ) → x < reach n r → GoesOn (effect x)
   pub left : (x : ℕ) → x < reach n r → slice_index after x ≡ pixel_after (effect x) (slice_index before x)
   pub right : (x : ℕ) → reach n r ≤ x → slice_index after x ≡ slice_index before x
   pub stops_there : StopsThere n effect r
