@@ -40,11 +40,18 @@ fn is_help(word: &str) -> bool {
     word == "--help" || word == "-h"
 }
 
-// Carries the lines out, one after the other.
+// Runs the script on standard input. Where there is no memory for a buffer, it is read without one.
 fn run(rt: &HostRuntime) -> io::Result<()> {
+    match BufReader::new(rt.alloc(), rt.stdin()) {
+        Ok(mut input) => obey_lines(rt, &mut input),
+        Err(_) => obey_lines(rt, &mut rt.reader()),
+    }
+}
+
+// Carries the lines out, one after the other.
+fn obey_lines(rt: &HostRuntime, input: &mut impl BufRead) -> io::Result<()> {
     let heap = rt.alloc();
     let mut panel = Panel::new(heap);
-    let mut input = BufReader::new(heap, rt.stdin())?;
     let mut line = Vec::new(heap);
     for number in 1..u64::MAX {
         line.clear();
@@ -56,7 +63,7 @@ fn run(rt: &HostRuntime) -> io::Result<()> {
                     return Err(error);
                 }
                 print::outcome(rt, number, Err(ScriptError::OutOfMemory))?;
-                lines::skip_line(&mut input)?;
+                lines::skip_line(input)?;
             }
         }
     }
