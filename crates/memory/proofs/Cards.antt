@@ -1,5 +1,5 @@
 -- What a card shows, address by address.
-use Rattle.std.proofs.Common.{◌≡◌, ℕ, ◌+◌, ◌-◌, ◌*◌, ◌/◌, ◌%◌, ◌^◌, ◌<◌, ◌≤◌, min, true, cond, ◌&&◌, ltb, leb, ◌⊎◌, List, length, get_or, drop, ap, ◌∙◌, inl, inr, ⊎_elim, arith}
+use Rattle.std.proofs.Common.{◌≡◌, ℕ, ◌+◌, ◌-◌, ◌*◌, ◌/◌, ◌%◌, ◌^◌, ◌<◌, ◌≤◌, min, Bool, true, false, cond, ◌&&◌, ltb, leb, ◌⊎◌, List, length, get_or, drop, refl, ap, ◌∙◌, inl, inr, ⊎_elim, arith}
 use Rattle.std.proofs.lemmas.List.{get_or-take, get_or-drop, get_or_past, length-take, length-drop}
 use Rattle.std.proofs.lemmas.Bool.{ltb-true, leb-true, lt-ltb, le-leb, and_from, and_parts, cond-true, cond-false, cases_Bool, cases_lt}
 use Rattle.memory.specs.Cards.{block, block_count, data_outcome, card}
@@ -29,12 +29,17 @@ module _ {X : Type 0} (base a x n : ℕ) (p q : X) where
 abbrev pub ShowsSome : ℕ → List ℕ → ℕ → Type 0
 ShowsSome base file a = ShownAt base a ((a - base) / 504) (block_count file)
 
+-- two tests one inside the other, as one
+both_tests : {X : Type 0} (b c : Bool) (p q : X) → cond b (cond c p q) q ≡ cond (b && c) p q
+both_tests true c p q = refl
+both_tests false c p q = refl
+
 pub card_inside : (base : ℕ) (file : List ℕ) (a : ℕ) → ShowsSome base file a
     → card base file a ≡ data_outcome file ((a - base) / 504) ((a - base) % 504)
-card_inside base file a h = shown_inside base a _ _ _ _ h
+card_inside base file a h = both_tests (in_reach base a) _ _ _ ∙ shown_inside base a _ _ _ _ h
 
 pub card_outside : (base : ℕ) (file : List ℕ) (a : ℕ) → (ShowsSome base file a → ⊥) → card base file a ≡ absent
-card_outside base file a h = shown_outside base a _ _ _ _ h
+card_outside base file a h = both_tests (in_reach base a) _ _ _ ∙ shown_outside base a _ _ _ _ h
 
 -- byte j of block k is byte 512 · k + j of the file
 pub block_byte : (file : List ℕ) (k j : ℕ) → j < 512 → get_or (block file k) j 0 ≡ get_or file (512 * k + j) 0

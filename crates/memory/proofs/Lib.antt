@@ -1,3 +1,5 @@
+pub mod Refusals
+pub mod Chunks
 pub mod Halfwords
 pub mod Sums
 pub mod Sealing

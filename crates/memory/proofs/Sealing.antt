@@ -1,19 +1,10 @@
--- The number and the sums that are put in make a block sound, and leave its data.
-use Rattle.std.proofs.Common.{◌≡◌, ℕ, ◌+◌, ◌*◌, ◌/◌, ◌%◌, ◌<◌, true, List, length, sym, ◌∙◌, arith}
+-- The sums that are put in make a block sound, and leave its data.
+use Rattle.std.proofs.Common.{◌≡◌, ℕ, ◌+◌, ◌*◌, ◌<◌, true, List, length, sym, ◌∙◌, arith}
 use Rattle.std.proofs.lemmas.Bool.{eq-eqb, and_from}
 use Rattle.memory.specs.Blocks.{first_sum, second_sum, stored_number, sums_hold, sound}
 use Rattle.memory.specs.Halfwords.{halfword, put}
 use Rattle.memory.proofs.Halfwords.{length-put, halfword-put_same, halfword-put_other}
 use Rattle.memory.proofs.Sums.{Agree, first_sum_same, second_sum_same}
-
--- with a number put in, a block carries it
-pub number_put : (b : List ℕ) (k : ℕ) → length b ≡ 512 → stored_number (put (put b 504 (k % 65536)) 506 (k / 65536)) ≡ k
-number_put b k whole =
-    let c = put b 504 (k % 65536) in
-    let low : halfword (put c 506 (k / 65536)) 504 ≡ k % 65536 =
-    halfword-put_other c 506 504 _ (λ e. omega arith, λ e. omega arith, λ e. omega arith) ∙ halfword-put_same b 504 _ (omega arith) in
-    let high : halfword (put c 506 (k / 65536)) 506 ≡ k / 65536 = halfword-put_same c 506 _ (omega (arith, length-put b 504 (k % 65536))) in
-    omega (arith, low, high)
 
 module _ (b : List ℕ) (s t : ℕ) (whole : length b ≡ 512) (first : s ≡ first_sum b 254) (second : t ≡ second_sum b 254) where
   -- the halfwords before the sums stay

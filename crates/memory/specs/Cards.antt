@@ -1,9 +1,17 @@
 -- What a card shows.
-use Rattle.std.specs.Prelude.{ℕ, zero, suc, ◌+◌, ◌-◌, ◌*◌, ◌/◌, ◌%◌, min, Bool, cond, ◌&&◌, List, length, take, drop, nat_lt}
+use Rattle.std.specs.Prelude.{ℕ, zero, suc, ◌+◌, ◌-◌, ◌*◌, ◌/◌, ◌%◌, min, Bool, cond, List, length, take, drop, nat_lt}
 use Rattle.memory.specs.Blocks.{sound}
 use Rattle.memory.specs.Halfwords.{halfword}
 use Rattle.memory.specs.Memories.{in_reach}
 use Rattle.memory.specs.Outcomes.{Outcome, present, absent, unsound}
+
+-- a card as contracts see it: the address that its data begin at, and its file
+pub record CardFile : Type 0 where
+  pub base : ℕ
+  pub file : List ℕ
+
+abbrev pub card_file : ℕ → List ℕ → CardFile
+card_file base file = record { base = base; file = file }
 
 -- block k of a file
 abbrev pub block : List ℕ → ℕ → List ℕ
@@ -26,6 +34,10 @@ sound_count file (suc n) = cond (sound_at file n) (sound_count file n + 1) (soun
 abbrev pub data_outcome : List ℕ → ℕ → ℕ → Outcome
 data_outcome file k j = cond (sound_at file k) (present (halfword (block file k) j)) unsound
 
+-- the outcome at byte j of the data of block k of a file: nothing where that block does not count
+abbrev pub block_outcome : List ℕ → ℕ → ℕ → Outcome
+block_outcome file k j = cond (nat_lt k (block_count file)) (data_outcome file k j) absent
+
 -- a card: data byte j of block k appears at base + 504 · k + j
 abbrev pub card : ℕ → List ℕ → ℕ → Outcome
-card base file a = cond (in_reach base a && nat_lt ((a - base) / 504) (block_count file)) (data_outcome file ((a - base) / 504) ((a - base) % 504)) absent
+card base file a = cond (in_reach base a) (block_outcome file ((a - base) / 504) ((a - base) % 504)) absent

@@ -3,7 +3,7 @@ ghost use Rattle.memory.specs.Halfwords.{even};
 ghost use Rattle.memory.specs.Memories.{flat};
 
 use crate::block::halfword_at;
-use crate::memory::Memory;
+use crate::memory::{Memory, offset_from};
 use crate::refusal::Refusal;
 
 // The caller's bytes, shown from a base address on.
@@ -14,10 +14,9 @@ pub struct Flat<'a> {
 }
 
 impl<'a> Flat<'a> {
-    // Shows these bytes; an odd base is rounded down to even. The clause is about what the made memory shows, the
-    // outcome function below.
+    // Shows these bytes; an odd base is rounded down to even.
     pub fn new(base: u32, bytes: &'a [u8]) -> Self
-        ensures { flat result.base result.bytes.now ≡ flat (even base) bytes.now }
+        ensures { ⟦<Flat<'a> as Memory>⟧.outcome result ≡ flat (even base) bytes.now }
     {
         Flat {
             base: base - base % 2,
@@ -30,16 +29,10 @@ impl<'a> Memory for Flat<'a> {
     ghost outcome = { λ m. flat m.base m.bytes.now };
 
     fn read(&self, address: u32) -> Result<u16, Refusal> {
-        if address % 2 == 1 {
-            return Err(Refusal::OddAddress);
-        }
-        if address < self.base {
+        let offset = offset_from(self.base, address)?;
+        if offset + 1 >= self.bytes.len() {
             return Err(Refusal::Absent);
         }
-        let at = (address - self.base) as usize;
-        if at + 1 >= self.bytes.len() {
-            return Err(Refusal::Absent);
-        }
-        Ok(halfword_at(self.bytes, at))
+        Ok(halfword_at(self.bytes, offset))
     }
 }

@@ -1,4 +1,5 @@
 ghost use Rattle.std.specs.Prelude.{◌≡◌, ℕ};
+ghost use Rattle.memory.specs.Memories.{offset};
 ghost use Rattle.memory.specs.Outcomes.{Outcome, answer};
 
 use crate::refusal::Refusal;
@@ -21,4 +22,15 @@ impl<M: Memory> Memory for &M {
     fn read(&self, address: u32) -> Result<u16, Refusal> {
         (**self).read(address)
     }
+}
+
+// How far an address lies behind a base. An odd address is refused with 1, one below the base with 2.
+pub(crate) fn offset_from(base: u32, address: u32) -> Result<usize, Refusal>
+    ensures { result ≡ offset base address }
+{
+    if address % 2 == 1 {
+        return Err(Refusal::OddAddress);
+    }
+    let offset = address.checked_sub(base).ok_or(Refusal::Absent)?;
+    Ok(offset as usize)
 }

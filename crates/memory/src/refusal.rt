@@ -1,72 +1,64 @@
 ghost use Rattle.std.specs.Prelude.{◌≡◌};
 ghost use Rattle.memory.specs.Refusals.{number, refusal};
 
+use std::fmt;
+
 // Why a call of the panel's software is refused. Each refusal has a number.
 #[derive(Clone, Copy, PartialEq, Eq, Debug)]
 pub enum Refusal {
     // a read of an odd address
-    OddAddress,
+    OddAddress = 1,
     // nothing at this address
-    Absent,
+    Absent = 2,
     // the block is unsound
-    Unsound,
+    Unsound = 3,
     // no instruction has this code
-    UnknownCode,
+    UnknownCode = 4,
     // a POPJ condition above 2
-    BadCondition,
+    BadCondition = 5,
     // a jump taken, a start or a load address is no multiple of 4
-    Misaligned,
+    Misaligned = 6,
     // a half-size texture of the smallest size
-    HalfOfSmallest,
+    HalfOfSmallest = 7,
     // a palette write while a line is begun
-    LineBegun,
+    LineBegun = 8,
     // a take while no line is finished
-    NoneFinished,
+    NoneFinished = 9,
     // a take while a line is out
-    LineOut,
+    LineOut = 10,
     // the lease's store is not the one out
-    ForeignLease,
+    ForeignLease = 11,
     // space for a read out below 512 numbers
-    ShortSpace,
+    ShortSpace = 12,
     // a layer put on a scene of 64
-    SceneFull,
+    SceneFull = 13,
     // a layer lifted off an empty scene
-    SceneEmpty,
+    SceneEmpty = 14,
     // a layer's field is too wide, or its address no multiple of 4
-    BadField,
+    BadField = 15,
     // the program is longer than its space
-    ProgramTooLong,
+    ProgramTooLong = 16,
     // a height outside 1 to 1,024
-    BadHeight,
+    BadHeight = 17,
     // the program would end past the last address
-    PastTop,
+    PastTop = 18,
 }
 
 impl Refusal {
     // The number that the panel shows for this refusal, from 1 to 18; no two have the same.
+    #[tactic(auto, using(crate::proofs::Refusals::refusal_at_place))]
     pub fn number(self) -> u8
         ensures value { result ≡ number self }
         ensures distinct { refusal result ≡ self }
     {
-        match self {
-            Refusal::OddAddress => 1,
-            Refusal::Absent => 2,
-            Refusal::Unsound => 3,
-            Refusal::UnknownCode => 4,
-            Refusal::BadCondition => 5,
-            Refusal::Misaligned => 6,
-            Refusal::HalfOfSmallest => 7,
-            Refusal::LineBegun => 8,
-            Refusal::NoneFinished => 9,
-            Refusal::LineOut => 10,
-            Refusal::ForeignLease => 11,
-            Refusal::ShortSpace => 12,
-            Refusal::SceneFull => 13,
-            Refusal::SceneEmpty => 14,
-            Refusal::BadField => 15,
-            Refusal::ProgramTooLong => 16,
-            Refusal::BadHeight => 17,
-            Refusal::PastTop => 18,
-        }
+        self as u8
+    }
+}
+
+// A refusal is shown by its number.
+impl fmt::Display for Refusal {
+    fn fmt<W: fmt::Write>(&self, f: &mut fmt::Formatter<W>) -> fmt::Result {
+        let number = self.number();
+        write!(f, "{number}")
     }
 }

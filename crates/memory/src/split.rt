@@ -14,10 +14,9 @@ pub struct Split<A, B> {
 }
 
 impl<A: Memory, B: Memory> Split<A, B> {
-    // Joins two memories; an odd boundary is rounded down to even. The clause is about what the made memory shows,
-    // the outcome function below.
+    // Joins two memories; an odd boundary is rounded down to even.
     pub fn new(boundary: u32, low: A, high: B) -> Self
-        ensures { split result.boundary (A.Memory.outcome result.low) (B.Memory.outcome result.high) ≡ split (even boundary) (A.Memory.outcome low) (B.Memory.outcome high) }
+        ensures { ⟦<Split<A, B> as Memory>⟧.outcome result ≡ split (even boundary) (A.Memory.outcome low) (B.Memory.outcome high) }
     {
         Split {
             boundary: boundary - boundary % 2,
