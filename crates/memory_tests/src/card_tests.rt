@@ -6,8 +6,8 @@ use std::test::Fail;
 // Data byte j of block k in these tests.
 fn pattern(k: u8) -> [u8; 504] {
     let mut payload = [0u8; 504];
-    for j in 0..504 {
-        payload[j] = ((j * 7 + 13 * k as usize) % 256) as u8;
+    for (j, byte) in payload.iter_mut().enumerate() {
+        *byte = ((j * 7 + 13 * usize::from(k)) % 256) as u8;
     }
     payload
 }
@@ -44,10 +44,11 @@ fn sealed_blocks_are_read_back(rt: HostRuntime) -> Result<(), Fail> {
     assert_eq!(rt; card.sound_blocks(), 3);
     for k in 0..3u8 {
         let payload = pattern(k);
-        for j in 0..252usize {
-            let expected = u16::from(payload[2 * j]) + 256 * u16::from(payload[2 * j + 1]);
-            let address = 0x1000 + 504 * u32::from(k) + 2 * j as u32;
-            assert_eq!(rt; answer(&card, address), Ok(expected));
+        let start = 0x1000 + 504 * u32::from(k);
+        let (pairs, _) = payload.as_chunks::<2>();
+        for (j, pair) in pairs.iter().enumerate() {
+            let expected = u16::from_le_bytes(*pair);
+            assert_eq!(rt; answer(&card, start + 2 * j as u32), Ok(expected));
         }
     }
     assert_eq!(rt; answer(&card, 0x0FFE), Err(2));

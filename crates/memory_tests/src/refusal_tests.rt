@@ -23,9 +23,7 @@ const IN_ORDER: [Refusal; 18] = [
 
 #[test]
 fn numbers_run_from_1_to_18(rt: HostRuntime) {
-    let mut expected = 1u8;
-    for refusal in IN_ORDER {
+    for (refusal, expected) in IN_ORDER.into_iter().zip(1..=18) {
         assert_eq!(rt; refusal.number(), expected);
-        expected = expected.wrapping_add(1);
     }
 }
