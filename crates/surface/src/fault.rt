@@ -1,4 +1,5 @@
 use memory::Refusal;
+use std::fmt;
 
 // What a surface was reading when a memory refused.
 #[derive(Clone, Copy, PartialEq, Eq, Debug)]
@@ -7,10 +8,28 @@ pub enum Reading {
     Pixel,
 }
 
+impl fmt::Display for Reading {
+    fn fmt<W: fmt::Write>(&self, f: &mut fmt::Formatter<W>) -> fmt::Result {
+        match self {
+            Reading::TileIndex => write!(f, "tile index"),
+            Reading::Pixel => write!(f, "pixel"),
+        }
+    }
+}
+
 // A memory's refusal, with what was read and the address read.
-#[derive(Clone, Copy)]
+#[derive(Clone, Copy, PartialEq, Eq, Debug)]
 pub struct Fault {
     pub refusal: Refusal,
     pub reading: Reading,
     pub address: u32,
+}
+
+impl fmt::Display for Fault {
+    fn fmt<W: fmt::Write>(&self, f: &mut fmt::Formatter<W>) -> fmt::Result {
+        let number = self.refusal.number();
+        let reading = self.reading;
+        let address = self.address;
+        write!(f, "refused {number}, reading {reading} 0x{address:08X}")
+    }
 }

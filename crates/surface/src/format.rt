@@ -1,9 +1,9 @@
-ghost use Rattle.std.specs.Prelude.{◌≡◌, ◌≤◌, true, false};
-ghost use Rattle.surface.specs.declared.format.PixelLayout.{PixelLayout};
-ghost use Rattle.surface.specs.Formats.{argb1555, p8, p4, p1};
+ghost use Rattle.std.specs.Prelude.{◌≡◌, ℕ, ◌≤◌, Bool};
+ghost use Rattle.std.proofs.Common.{lit≤};
+ghost use Rattle.surface.specs.Formats.{pixels, argb1555, p8, p4, p1};
 
 // How pixels lie in a halfword: their width in bits, and whether they are palette indices (or else colours).
-#[derive(Clone, Copy)]
+#[derive(Clone, Copy, PartialEq, Eq, Debug)]
 pub struct PixelLayout {
     pub width: u32,
     pub indexed: bool,
@@ -20,17 +20,29 @@ pub enum Format {
 
 // A pixel format, as a type of its own.
 pub trait PixelFormat {
-    // what the two constants say; a clause cannot name a constant of a trait
-    ghost layout: { PixelLayout };
+    // how many bits a pixel has
+    ghost WIDTH: { ℕ };
 
     const WIDTH: u32;
+
+    // whether a pixel is a palette index, or else a colour
+    ghost INDEXED: { Bool };
 
     const INDEXED: bool;
 
     // Both constants; no pixel is wider than a halfword.
     fn layout() -> PixelLayout
-        ensures value { result ≡ layout }
-        ensures narrow { result.width ≤ 16 };
+        ensures value { result ≡ pixels WIDTH INDEXED }
+        ensures narrow { result.width ≤ 16 }
+    {
+        PixelLayout {
+            width: Self::WIDTH,
+            indexed: Self::INDEXED,
+        }
+    }
+
+    // no pixel is wider than a halfword
+    ghost narrow: { WIDTH ≤ 16 };
 }
 
 // Format 0: a pixel of 16 bits is a colour.
@@ -38,18 +50,15 @@ pub trait PixelFormat {
 pub struct Argb1555;
 
 impl PixelFormat for Argb1555 {
-    ghost layout = { argb1555 };
+    ghost WIDTH = { argb1555.width };
 
     const WIDTH: u32 = 16;
 
+    ghost INDEXED = { argb1555.indexed };
+
     const INDEXED: bool = false;
 
-    fn layout() -> PixelLayout {
-        PixelLayout {
-            width: Argb1555::WIDTH,
-            indexed: Argb1555::INDEXED,
-        }
-    }
+    ghost narrow = { lit≤ tt };
 }
 
 // Format 1: a pixel of 8 bits is a palette index.
@@ -57,18 +66,15 @@ impl PixelFormat for Argb1555 {
 pub struct P8;
 
 impl PixelFormat for P8 {
-    ghost layout = { p8 };
+    ghost WIDTH = { p8.width };
 
     const WIDTH: u32 = 8;
 
+    ghost INDEXED = { p8.indexed };
+
     const INDEXED: bool = true;
 
-    fn layout() -> PixelLayout {
-        PixelLayout {
-            width: P8::WIDTH,
-            indexed: P8::INDEXED,
-        }
-    }
+    ghost narrow = { lit≤ tt };
 }
 
 // Format 2: a pixel of 4 bits is a palette index.
@@ -76,18 +82,15 @@ impl PixelFormat for P8 {
 pub struct P4;
 
 impl PixelFormat for P4 {
-    ghost layout = { p4 };
+    ghost WIDTH = { p4.width };
 
     const WIDTH: u32 = 4;
 
+    ghost INDEXED = { p4.indexed };
+
     const INDEXED: bool = true;
 
-    fn layout() -> PixelLayout {
-        PixelLayout {
-            width: P4::WIDTH,
-            indexed: P4::INDEXED,
-        }
-    }
+    ghost narrow = { lit≤ tt };
 }
 
 // Format 3: a pixel of 1 bit is a palette index.
@@ -95,16 +98,13 @@ impl PixelFormat for P4 {
 pub struct P1;
 
 impl PixelFormat for P1 {
-    ghost layout = { p1 };
+    ghost WIDTH = { p1.width };
 
     const WIDTH: u32 = 1;
 
+    ghost INDEXED = { p1.indexed };
+
     const INDEXED: bool = true;
 
-    fn layout() -> PixelLayout {
-        PixelLayout {
-            width: P1::WIDTH,
-            indexed: P1::INDEXED,
-        }
-    }
+    ghost narrow = { lit≤ tt };
 }

@@ -8,6 +8,8 @@ mod image;
 mod palette;
 mod pixel;
 mod plain;
+mod side;
+mod source;
 mod surface;
 mod tile_field;
 
@@ -18,5 +20,7 @@ pub use image::Image;
 pub use palette::Palette;
 pub use pixel::unpack;
 pub use plain::Plain;
+pub use side::power_of_two;
+pub use source::Source;
 pub use surface::Surface;
 pub use tile_field::TileField;

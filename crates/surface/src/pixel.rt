@@ -1,5 +1,6 @@
 // From halfwords to pixels, and from pixels to colours: once, for every format.
 ghost use Rattle.std.specs.Prelude.{◌≡◌};
+ghost use Rattle.surface.specs.Formats.{pixels};
 ghost use Rattle.surface.specs.Lookups.{colour_of};
 ghost use Rattle.surface.specs.Palettes.{colours};
 ghost use Rattle.surface.specs.Pixels.{unpacked, pixel_address, pixel_colour, pixel_lookup};
@@ -7,11 +8,12 @@ ghost use Rattle.surface.specs.Pixels.{unpacked, pixel_address, pixel_colour, pi
 use crate::fault::{Fault, Reading};
 use crate::format::PixelFormat;
 use crate::palette::Palette;
+use crate::source::Source;
 use memory::Memory;
 
 // Pixel k of an image, from the halfword that holds it.
 pub fn unpack<F: PixelFormat>(halfword: u16, k: u32) -> u16
-    ensures { result ≡ unpacked F.PixelFormat.layout.width k halfword }
+    ensures { result ≡ unpacked F.WIDTH k halfword }
 {
     let width = F::layout().width;
     let shift = k.wrapping_mul(width) % 16;
@@ -20,7 +22,7 @@ pub fn unpack<F: PixelFormat>(halfword: u16, k: u32) -> u16
 
 // The address of the halfword that holds pixel k of an image.
 fn address_of<F: PixelFormat>(image: u32, k: u32) -> u32
-    ensures { result ≡ pixel_address F.PixelFormat.layout.width image k }
+    ensures { result ≡ pixel_address F.WIDTH image k }
 {
     let bit = k as u64 * F::layout().width as u64;
     image.wrapping_add((2 * (bit / 16) % 0x1_0000_0000) as u32)
@@ -28,7 +30,7 @@ fn address_of<F: PixelFormat>(image: u32, k: u32) -> u32
 
 // The colour that a pixel means under a palette offset.
 fn meaning<F: PixelFormat>(pixel: u16, poff: u8, palette: &Palette) -> u16
-    ensures { result ≡ pixel_colour F.PixelFormat.layout poff pixel (colours palette.now) }
+    ensures { result ≡ pixel_colour (pixels F.WIDTH F.INDEXED) poff pixel (colours palette.now) }
 {
     if F::layout().indexed {
         let index = (pixel % 256) as u8;
@@ -43,18 +45,10 @@ pub(crate) fn pixel_at<F: PixelFormat, M: Memory>(
     image: u32,
     k: u32,
     poff: u8,
-    memory: &M,
-    palette: &Palette,
+    source: &Source<'_, M>,
 ) -> Result<u16, Fault>
-    ensures { result ≡ colour_of (M.Memory.outcome memory.now) (colours palette.now) (pixel_lookup F.PixelFormat.layout poff image k) }
+    ensures { result ≡ colour_of (M.outcome source.now.memory.now) (colours source.now.palette.now) (pixel_lookup (pixels F.WIDTH F.INDEXED) poff image k) }
 {
-    let address = address_of::<F>(image, k);
-    match memory.read(address) {
-        Ok(halfword) => Ok(meaning::<F>(unpack::<F>(halfword, k), poff, palette)),
-        Err(refusal) => Err(Fault {
-            refusal,
-            reading: Reading::Pixel,
-            address,
-        }),
-    }
+    let halfword = source.read(Reading::Pixel, address_of::<F>(image, k))?;
+    Ok(meaning::<F>(unpack::<F>(halfword, k), poff, source.palette))
 }

@@ -1,7 +1,7 @@
 ghost use Rattle.surface.specs.Surfaces.{plain_lookup};
 
 use crate::fault::Fault;
-use crate::palette::Palette;
+use crate::source::Source;
 use crate::surface::Surface;
 use memory::Memory;
 
@@ -20,12 +20,7 @@ impl Surface for Plain {
         1
     }
 
-    fn colour<M: Memory>(
-        &self,
-        _at: (u16, u16),
-        _memory: &M,
-        _palette: &Palette,
-    ) -> Result<u16, Fault> {
+    fn colour<M: Memory>(&self, _at: (u16, u16), _source: &Source<'_, M>) -> Result<u16, Fault> {
         Ok(0x8000 + self.colour % 0x8000)
     }
 }

@@ -1,9 +1,9 @@
 ghost use Rattle.std.specs.Prelude.{◌≡◌, ℕ, ◌<◌};
-ghost use Rattle.surface.specs.Lookups.{Lookup, colour_of, folded, RefusedByNeeds};
+ghost use Rattle.surface.specs.Lookups.{Lookup, folded, Answers};
 ghost use Rattle.surface.specs.Palettes.{colours};
 
 use crate::fault::Fault;
-use crate::palette::Palette;
+use crate::source::Source;
 use memory::Memory;
 
 // A surface means a side, and for each place (u, v) below the side a colour or a memory's refusal.
@@ -20,7 +20,6 @@ pub trait Surface {
 
     // The colour at a place (u, v), folded into the side: u mod side, v mod side. It is refused exactly if the memory
     // refuses a halfword that the surface needs there, with the first such refusal.
-    fn colour<M: Memory>(&self, at: (u16, u16), memory: &M, palette: &Palette) -> Result<u16, Fault>
-        ensures value { result ≡ colour_of (M.Memory.outcome memory.now) (colours palette.now) (folded (side self.now) (lookup self.now) at.0 at.1) }
-        ensures needs { RefusedByNeeds (M.Memory.outcome memory.now) (folded (side self.now) (lookup self.now) at.0 at.1) result };
+    fn colour<M: Memory>(&self, at: (u16, u16), source: &Source<'_, M>) -> Result<u16, Fault>
+        ensures { Answers (M.outcome source.now.memory.now) (colours source.now.palette.now) (folded (side self.now) (lookup self.now) at.0 at.1) result };
 }
