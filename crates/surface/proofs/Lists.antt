@@ -40,3 +40,6 @@ pub replicate_same : (n i a : ℕ) → get_or (replicate n a) i a ≡ a
 replicate_same zero i a = refl
 replicate_same (suc n) zero a = refl
 replicate_same (suc n) (suc i) a = replicate_same n i a
+
+pub all_zeros : (l : List ℕ) (i : ℕ) → l ≡ replicate 256 0 → get_or l i 0 ≡ 0
+all_zeros l i e = ap (λ (k : List ℕ). get_or k i 0) e ∙ replicate_same 256 i 0

@@ -21,12 +21,12 @@ impl Model for Palette {
 
 impl Palette {
     // A palette whose colours are all 0.
-    #[tactic(auto, using(crate::proofs::Lists::replicate_same))]
+    #[tactic(auto, using(crate::proofs::Lists::all_zeros))]
     pub fn new() -> Palette
         ensures made { result ≡ all_the_same 0 }
         ensures colours { (i : ℕ) → colours result i ≡ 0 }
     {
-        Palette { entries: [0; 256] }
+        Palette::default()
     }
 
     // Gives an index another colour; the others keep theirs.
@@ -53,6 +53,6 @@ impl Default for Palette {
     ghost is_default = { λ p. p ≡ all_the_same 0 };
 
     fn default() -> Palette {
-        Palette::new()
+        Palette { entries: [0; 256] }
     }
 }
