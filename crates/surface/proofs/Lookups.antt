@@ -4,7 +4,10 @@ use Rattle.memory.specs.Outcomes.{Outcome, answer}
 use Rattle.memory.specs.declared.refusal.Refusal.{Refusal}
 use Rattle.surface.specs.declared.fault.Fault.{Fault}
 use Rattle.surface.specs.declared.fault.Reading.{Reading}
-use Rattle.surface.specs.Lookups.{Lookup, shows, needs_then, need, colour_of, after_read, needs, needs_after, first_refused, or_later, refusal_in, Answers}
+use Rattle.surface.specs.declared.source.Source.{Source}
+use Rattle.surface.specs.Lookups.{Lookup, shows, needs_then, need, colour_of, after_read, needs, needs_after, first_refused, or_later, refusal_in}
+use Rattle.surface.specs.Palettes.{colours}
+use Rattle.surface.specs.Sources.{colour_from, Answers}
 
 module _ (memory : ℕ → Outcome) (palette : ℕ → ℕ) where
   -- the first read, by what it answered
@@ -22,6 +25,7 @@ module _ (memory : ℕ → Outcome) (palette : ℕ → ℕ) where
       by_answer reading address rest (λ h. refused_by_needs (rest h)) (answer memory address)
 
 -- an answer that is the lookup's colour
-pub answers : (memory : ℕ → Outcome) (palette : ℕ → ℕ) (lookup : Lookup) (r : Result ℕ Fault)
-    → r ≡ colour_of memory palette lookup → Answers memory palette lookup r
-answers memory palette lookup r e = record { value = e; refused_by_needs = record { first = ap refusal_in e ∙ refused_by_needs memory palette lookup } }
+pub answers : {M : Type 0} (outcome : M → ℕ → Outcome) (source : Source M) (lookup : Lookup) (r : Result ℕ Fault)
+    → r ≡ colour_from outcome source lookup → Answers outcome source lookup r
+answers outcome source lookup r e =
+    record { value = e; needs = record { first = ap refusal_in e ∙ refused_by_needs (outcome source.memory.now) (colours source.palette.now) lookup } }

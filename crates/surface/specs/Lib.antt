@@ -5,3 +5,4 @@ pub mod Formats
 pub mod Lookups
 pub mod Pixels
 pub mod Surfaces
+pub mod Sources

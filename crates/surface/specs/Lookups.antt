@@ -70,8 +70,3 @@ pub record RefusedByNeeds (memory : ℕ → Outcome) (lookup : Lookup) (r : Resu
 -- the lookup at any place, folded into the side
 abbrev pub folded : ℕ → (ℕ → ℕ → Lookup) → ℕ → ℕ → Lookup
 folded side lookup u v = lookup (u % side) (v % side)
-
--- what a surface answers at a place: the colour of its lookup, or the refusal that its needs give
-pub record Answers (memory : ℕ → Outcome) (palette : ℕ → ℕ) (lookup : Lookup) (r : Result ℕ Fault) : Type 0 where
-  pub value : r ≡ colour_of memory palette lookup
-  pub refused_by_needs : RefusedByNeeds memory lookup r

@@ -1,6 +1,4 @@
 ghost use Rattle.surface.specs.Formats.{pixels};
-ghost use Rattle.surface.specs.Lookups.{Answers, folded};
-ghost use Rattle.surface.specs.Palettes.{colours};
 ghost use Rattle.surface.specs.Surfaces.{image_side, image_lookup};
 
 use crate::fault::Fault;

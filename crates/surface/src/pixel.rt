@@ -1,9 +1,9 @@
 // From halfwords to pixels, and from pixels to colours: once, for every format.
 ghost use Rattle.std.specs.Prelude.{◌≡◌};
 ghost use Rattle.surface.specs.Formats.{pixels};
-ghost use Rattle.surface.specs.Lookups.{colour_of};
 ghost use Rattle.surface.specs.Palettes.{colours};
 ghost use Rattle.surface.specs.Pixels.{unpacked, pixel_address, pixel_colour, pixel_lookup};
+ghost use Rattle.surface.specs.Sources.{colour_from};
 
 use crate::fault::{Fault, Reading};
 use crate::format::PixelFormat;
@@ -47,7 +47,7 @@ pub(crate) fn pixel_at<F: PixelFormat, M: Memory>(
     poff: u8,
     source: &Source<'_, M>,
 ) -> Result<u16, Fault>
-    ensures { result ≡ colour_of (M.outcome source.now.memory.now) (colours source.now.palette.now) (pixel_lookup (pixels F.WIDTH F.INDEXED) poff image k) }
+    ensures { result ≡ colour_from M.outcome source.now (pixel_lookup (pixels F.WIDTH F.INDEXED) poff image k) }
 {
     let halfword = source.read(Reading::Pixel, address_of::<F>(image, k))?;
     Ok(meaning::<F>(unpack::<F>(halfword, k), poff, source.palette))

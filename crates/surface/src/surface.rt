@@ -1,6 +1,6 @@
 ghost use Rattle.std.specs.Prelude.{◌≡◌, ℕ, ◌<◌};
-ghost use Rattle.surface.specs.Lookups.{Lookup, folded, Answers};
-ghost use Rattle.surface.specs.Palettes.{colours};
+ghost use Rattle.surface.specs.Lookups.{Lookup, folded};
+ghost use Rattle.surface.specs.Sources.{Answers};
 
 use crate::fault::Fault;
 use crate::source::Source;
@@ -21,5 +21,5 @@ pub trait Surface {
     // The colour at a place (u, v), folded into the side: u mod side, v mod side. It is refused exactly if the memory
     // refuses a halfword that the surface needs there, with the first such refusal.
     fn colour<M: Memory>(&self, at: (u16, u16), source: &Source<'_, M>) -> Result<u16, Fault>
-        ensures { Answers (M.outcome source.now.memory.now) (colours source.now.palette.now) (folded (side self.now) (lookup self.now) at.0 at.1) result };
+        ensures { Answers M.outcome source.now (folded (side self.now) (lookup self.now) at.0 at.1) result };
 }

@@ -1,7 +1,6 @@
 ghost use Rattle.std.specs.Prelude.{◌≡◌, ◌≤◌};
 ghost use Rattle.surface.specs.Formats.{pixels};
-ghost use Rattle.surface.specs.Lookups.{colour_of};
-ghost use Rattle.surface.specs.Palettes.{colours};
+ghost use Rattle.surface.specs.Sources.{colour_from};
 ghost use Rattle.surface.specs.Surfaces.{tile_side, field_side, index_address, byte_in, tile_address, tile_pixel, tile_lookup};
 
 use crate::fault::{Fault, Reading};
@@ -71,7 +70,7 @@ impl<F: PixelFormat> TileField<F> {
         v: u16,
         source: &Source<'_, M>,
     ) -> Result<u16, Fault>
-        ensures { result ≡ colour_of (M.outcome source.now.memory.now) (colours source.now.palette.now) (tile_pixel (pixels F.WIDTH F.INDEXED) self.now.poff self.now.tileset (tile_side self.now.s) u v i) }
+        ensures { result ≡ colour_from M.outcome source.now (tile_pixel (pixels F.WIDTH F.INDEXED) self.now.poff self.now.tileset (tile_side self.now.s) u v i) }
     {
         let t = self.side_of_tile();
         let image = start_of_tile::<F>(self.tileset, t, i);
