@@ -10,18 +10,12 @@ use Rattle.painter.specs.declared.tile.Tile as tile
 use Rattle.painter.specs.declared.clip.Clip.{Clip}
 use Rattle.painter.specs.declared.drawing.Drawing.{Drawing}
 use Rattle.painter.specs.declared.drawing.Drawing.TheVariants.{Blit, Tile}
-use Rattle.painter.specs.declared.painter.SpanRefusal.{SpanRefusal}
+use Rattle.painter.specs.declared.span_refusal.SpanRefusal.{SpanRefusal}
 use Rattle.painter.specs.Drawings.{format_of, side_of, lookup_in, span_in, drawing_span, ChangesNothing}
 use Rattle.painter.specs.Mappings.{inside, difference, modulo, apart, in_square, blit_place, tile_place, ablit_place, atile_place, transformed, scaled, identity}
 use Rattle.painter.specs.SpanLaws.{Paints}
 use Rattle.painter.specs.Spans.{span, painted}
 use Rattle.painter.proofs.Coordinates.{along_x, along_y}
-
--- a drawing painted in the format that it names
-pub in_format : {memory : ℕ → Outcome} {palette : ℕ → ℕ} {clip : Clip} (d : Drawing) (y : ℕ) {line after : List ℕ} {r : Result Unit SpanRefusal} (format : Format)
-    → format ≡ format_of d → Paints (span_in (layout_of format) memory palette clip d y) line after r → Paints (drawing_span memory palette clip d y) line after r
-in_format {memory} {palette} {clip} d y {line} {after} {r} format e p =
-    subst (λ (f : Format). Paints (span_in (layout_of f) memory palette clip d y) line after r) e p
 
 below_1024 : (z : ℤ) → modulo z 1024 < 1024
 below_1024 (pos n) = omega arith
@@ -47,11 +41,8 @@ same_places : (memory : ℕ → Outcome) (palette : ℕ → ℕ) (clip : Clip) (
     → ((x : ℕ) → p x ≡ q x) → painted (span memory palette clip p side lookup) line ≡ painted (span memory palette clip q side lookup) line
 same_places memory palette clip p q side lookup line e = ap (λ (f : ℕ → Option (ℕ × ℕ)). painted (span memory palette clip f side lookup) line) (fun_ext e)
 
-identity_changes_nothing : ChangesNothing identity
+pub identity_changes_nothing : ChangesNothing identity
 identity_changes_nothing = record {
   ablit = λ b memory palette clip y line. same_places memory palette clip _ _ (side_of (Blit b)) (lookup_in (layout_of b.format) (Blit b)) line (ablit_unmoved b y);
   atile = λ t memory palette clip y line. same_places memory palette clip _ _ (side_of (Tile t)) (lookup_in (layout_of t.format) (Tile t)) line (atile_unmoved t y);
 }
-
-pub scale_of_one : (scale : ℤ) → scale ≡ pos 256 → ChangesNothing (scaled scale)
-scale_of_one scale e = rw e identity_changes_nothing

@@ -5,8 +5,8 @@ use Rattle.surface.specs.declared.fault.Fault.{Fault}
 use Rattle.surface.specs.Colours.{opaque, painted_pixel}
 use Rattle.surface.specs.Lookups.{colour_of, refusal_in, needs, first_refused}
 use Rattle.surface.proofs.Lookups.{refused_by_needs}
-use Rattle.painter.specs.declared.painter.SpanRefusal.{SpanRefusal}
-use Rattle.painter.specs.Spans.{Effect, keep, put, stop, Span, in_clip, placed, effect_of, effect_at, painted}
+use Rattle.painter.specs.declared.span_refusal.SpanRefusal.{SpanRefusal}
+use Rattle.painter.specs.Spans.{Painting, Effect, keep, put, stop, Span, in_clip, placed, effect_of, effect_at, painted}
 use Rattle.painter.specs.SpanLaws.{pixel_after, GoesOn, reach, Pointwise, KeepsOutside, refused_need, RefusedByNeeds, Paints}
 use Rattle.painter.proofs.Pointwise.{pointwise, length-painted, painted_again}
 
@@ -82,5 +82,8 @@ module _ (s : Span) where
       }
 
 -- what a call that painted the span left and answered
-pub paints : (s : Span) (line after : List ℕ) (r : Result Unit SpanRefusal) → length line ≡ 512 → r ≡ (painted s line).0 → after ≡ (painted s line).1 → Paints s line after r
-paints s line after r long is left = rw (is, left) (paints_so s line long)
+pub paints : (s : Span) (line after : List ℕ) (r : Result Unit SpanRefusal) → length line ≡ 512 → painted s line ≡ (r, after) → Paints s line after r
+paints s line after r long e =
+    let is : r ≡ (painted s line).0 = sym (ap (λ (p : Painting). p.0) e) in
+    let left : after ≡ (painted s line).1 = sym (ap (λ (p : Painting). p.1) e) in
+    rw (is, left) (paints_so s line long)

@@ -4,4 +4,5 @@ pub mod Pointwise
 pub mod Laws
 pub mod Clips
 pub mod Drawings
-pub mod Columns
+pub mod NextColumns
+pub mod Sweeps

@@ -2,7 +2,7 @@
 use Rattle.std.proofs.Common.{◌≡◌, ℕ, zero, suc, ◌<◌, ◌≤◌, List, [], ◌∷◌, length, get_or, Ok, Err, Result, sym, refl, ap, ◌∙◌, subst, arith, length-set, below_more as below_one_more}
 use Rattle.surface.specs.Lists.{write_at}
 use Rattle.surface.proofs.Lists.{write_at_set, write_at_same, write_at_other}
-use Rattle.painter.specs.declared.painter.SpanRefusal.{SpanRefusal}
+use Rattle.painter.specs.declared.span_refusal.SpanRefusal.{SpanRefusal}
 use Rattle.painter.specs.Spans.{Effect, keep, put, stop, with_effect, then_column, painted_below}
 use Rattle.painter.specs.SpanLaws.{pixel_after, GoesOn, Pointwise}
 use Rattle.painter.proofs.Painting.{refused_to}

@@ -2,3 +2,6 @@ pub mod Mappings
 pub mod Spans
 pub mod SpanLaws
 pub mod Drawings
+pub mod Columns
+pub mod Painters
+pub mod PaintedDrawings

@@ -2,7 +2,7 @@
 use Rattle.std.specs.Prelude.{◌≡◌, ℕ, ◌<◌, ◌≤◌, Bool, false, cond, ◌&&◌, List, [], is_some, Some, None, Ok, Err, Option, Result, slice_index}
 use Rattle.surface.specs.declared.fault.Fault.{Fault}
 use Rattle.surface.specs.Lookups.{Need, needs, first_refused}
-use Rattle.painter.specs.declared.painter.SpanRefusal.{SpanRefusal}
+use Rattle.painter.specs.declared.span_refusal.SpanRefusal.{SpanRefusal}
 use Rattle.painter.specs.Spans.{Span, Effect, keep, put, stop, in_clip, lookup_at, effect_at, painted}
 
 -- a pixel after an effect

@@ -1,12 +1,12 @@
 -- A span: what is painted on one line, and what it does to the line, column by column.
-use Rattle.std.specs.Prelude.{ℕ, zero, suc, Bool, cond, ◌&&◌, List, Some, None, Ok, Err, Option, Result, nat_le, nat_lt}
+use Rattle.std.specs.Prelude.{ℕ, zero, suc, Bool, cond, ◌&&◌, List, Some, None, Ok, Err, Option, Result, nat_le}
 use Rattle.memory.specs.Outcomes.{Outcome}
 use Rattle.surface.specs.declared.fault.Fault.{Fault}
 use Rattle.surface.specs.Colours.{opaque, painted_pixel}
 use Rattle.surface.specs.Lists.{write_at}
 use Rattle.surface.specs.Lookups.{Lookup, nothing, colour_of, folded}
 use Rattle.painter.specs.declared.clip.Clip.{Clip}
-use Rattle.painter.specs.declared.painter.SpanRefusal.{SpanRefusal}
+use Rattle.painter.specs.declared.span_refusal.SpanRefusal.{SpanRefusal}
 
 -- all that a span depends on: what the memory shows, the palette's colours, the clip, the place of each column on the
 -- surface (none outside the region), the surface's side, and what the surface looks up below it
@@ -46,17 +46,13 @@ effect_of (Err fault) = stop fault
 abbrev pub lookup_at : Span → ℕ → Lookup
 lookup_at s x = placed s.side s.lookup (s.place x)
 
--- what a drawing does at column x, the clip aside
-abbrev pub unclipped_effect : (ℕ → Outcome) → (ℕ → ℕ) → (ℕ → Option (ℕ × ℕ)) → ℕ → (ℕ → ℕ → Lookup) → ℕ → Effect
-unclipped_effect memory palette place side lookup x = effect_of (colour_of memory palette (placed side lookup (place x)))
+-- what a span does at column x, the clip aside
+abbrev pub unclipped_effect : Span → ℕ → Effect
+unclipped_effect s x = effect_of (colour_of s.memory s.palette (lookup_at s x))
 
 -- what a span does at column x
 abbrev pub effect_at : Span → ℕ → Effect
-effect_at s x = cond (in_clip s.clip x) (unclipped_effect s.memory s.palette s.place s.side s.lookup x) keep
-
--- an effect in the columns from one up to another, and none elsewhere
-abbrev pub between : ℕ → ℕ → (ℕ → Effect) → ℕ → Effect
-between from to effect x = cond (nat_le from x && nat_lt x to) (effect x) keep
+effect_at s x = cond (in_clip s.clip x) (unclipped_effect s x) keep
 
 -- an answer of the painter, and the line as it leaves it
 abbrev pub Painting : Type 0

@@ -1,12 +1,12 @@
 // Affine transforms of places, in 1/256 of a pixel.
-ghost use Rattle.std.specs.Prelude.{◌≡◌, pos, ◌+ℤ◌, ◌*ℤ◌};
+ghost use Rattle.std.specs.Prelude.{◌≡◌, ◌+ℤ◌, ◌*ℤ◌};
 ghost use Rattle.std.specs.Int.{int_wrap, w32};
 ghost use Rattle.painter.specs.Drawings.{ChangesNothing};
-ghost use Rattle.painter.specs.Mappings.{affine, transformed, scaled, identity};
+ghost use Rattle.painter.specs.Mappings.{affine, transformed, identity};
 
 // A matrix and a shift: u = a00 · dx + a01 · dy + b0, and v the same of a10, a11 and b1. In the a, 256 means 1; in the
 // b, 64 means 1.
-#[derive(Clone, Copy)]
+#[derive(Clone, Copy, PartialEq, Eq, Debug)]
 pub struct Transform {
     pub b1: u16,
     pub b0: u16,
@@ -34,28 +34,21 @@ fn coordinate(a: i16, b: i16, c: u16, dx: i32, dy: i32) -> u16
     (part / 256) as u16
 }
 
-// The same scale in both directions, and no shift.
-fn uniform(scale: i16) -> Transform
-    ensures value { result ≡ scaled scale }
-    ensures changes_nothing { scale ≡ pos 256 → ChangesNothing result }
-{
-    Transform {
-        b1: 0,
-        b0: 0,
-        a01: 0,
-        a00: scale,
-        a11: scale,
-        a10: 0,
-    }
-}
-
 impl Transform {
     // The identity: it keeps every place. With it an ABLIT without `half` paints as its BLIT, and an ATILE as its TILE.
+    #[tactic(auto, using(crate::proofs::Drawings::identity_changes_nothing))]
     pub fn identity() -> Transform
         ensures value { result ≡ identity }
         ensures changes_nothing { ChangesNothing result }
     {
-        uniform(256)
+        Transform {
+            b1: 0,
+            b0: 0,
+            a01: 0,
+            a00: 256,
+            a11: 256,
+            a10: 0,
+        }
     }
 
     // The place (u, v) that (dx, dy) is taken to.

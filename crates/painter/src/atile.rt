@@ -6,7 +6,7 @@ use crate::mapping::Mapping;
 use crate::tile::Tile;
 
 // ATILE: the field of a TILE, with its places transformed. The distances from the scroll stay signed.
-#[derive(Clone, Copy)]
+#[derive(Clone, Copy, PartialEq, Eq, Debug)]
 pub struct Atile {
     pub tile: Tile,
     pub transform: Transform,

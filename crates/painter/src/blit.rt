@@ -4,11 +4,12 @@ ghost use Rattle.painter.specs.Mappings.{blit_place};
 
 use crate::distance::distance;
 use crate::mapping::Mapping;
-use surface::Format;
+use std::marker::PhantomData;
+use surface::{Format, Image, PixelFormat, power_of_two};
 
 // BLIT: a square image with its corner at (x0, y0). Of the size, which gives the side 2^(size + 3), only the low three
 // bits count; `poff` is the palette offset and `image` the image's address.
-#[derive(Clone, Copy)]
+#[derive(Clone, Copy, PartialEq, Eq, Debug)]
 pub struct Blit {
     pub size: u8,
     pub poff: u8,
@@ -18,18 +19,33 @@ pub struct Blit {
     pub format: Format,
 }
 
-// The side of a square.
-fn side_of(size: u8) -> u16
-    ensures { result ≡ square_side size }
-{
-    1 << (size % 8 + 3)
+impl Blit {
+    // The side of the square.
+    fn side(&self) -> u16
+        ensures { result ≡ square_side self.now.size }
+    {
+        power_of_two(self.size % 8 + 3)
+    }
+
+    // The image that it shows, or with `half` the one of half the side.
+    pub(crate) fn surface<F: PixelFormat>(&self, half: bool) -> Image<F>
+        ensures { result ≡ record result { image = self.now.image; size = self.now.size; half = half; poff = self.now.poff } }
+    {
+        Image {
+            image: self.image,
+            size: self.size,
+            half,
+            poff: self.poff,
+            format: PhantomData,
+        }
+    }
 }
 
 impl Mapping for Blit {
     ghost place = { blit_place };
 
     fn place(&self, y: u16, x: u16) -> Option<(u16, u16)> {
-        let side = side_of(self.size);
+        let side = self.side();
         let dx = distance(x, self.x0);
         let dy = distance(y, self.y0);
         if dx < side && dy < side {
@@ -41,7 +57,7 @@ impl Mapping for Blit {
 
     // All if line y is outside the square, and else those up to where the distance from x0 comes round to 0.
     fn columns_outside(&self, y: u16, x: u16) -> u16 {
-        let side = side_of(self.size);
+        let side = self.side();
         if distance(y, self.y0) >= side {
             return 1023;
         }

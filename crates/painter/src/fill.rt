@@ -3,7 +3,7 @@ ghost use Rattle.painter.specs.Mappings.{fill_place};
 use crate::mapping::Mapping;
 
 // FILL: one colour in every column; of the colour only the low 15 bits count.
-#[derive(Clone, Copy)]
+#[derive(Clone, Copy, PartialEq, Eq, Debug)]
 pub struct Fill {
     pub colour: u16,
 }
