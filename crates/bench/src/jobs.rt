@@ -1,7 +1,7 @@
 // The drawings that are timed.
 use memory::Memory;
-use painter::{Ablit, Atile, Blit, Clip, Drawing, Fill, Tile, Transform, draw};
-use surface::{Format, Palette};
+use painter::{Ablit, Atile, Blit, Clip, Drawing, Fill, Painter, Tile, Transform};
+use surface::{Format, Source};
 
 // A drawing with its name, and how many columns and lines of it there are.
 #[derive(Clone, Copy)]
@@ -95,17 +95,15 @@ impl Job {
         &self,
         line: &mut [u16; 512],
         spans: u32,
-        memory: &M,
-        palette: &Palette,
-    ) -> u32 {
+        source: Source<'_, M>,
+    ) -> usize {
         let clip = Clip { start: 0, end: 511 };
-        let mut refused: u32 = 0;
-        for i in 0..spans {
-            let y = (i % self.lines.max(1) % 1024) as u16;
-            if draw(line, clip, y, self.drawing, memory, palette).is_err() {
-                refused = refused.saturating_add(1);
-            }
-        }
-        refused
+        (0..spans)
+            .map(|i| {
+                let y = (i % self.lines.max(1) % 1024) as u16;
+                Painter { source, clip, y }.draw(line, self.drawing)
+            })
+            .filter(|answer| answer.is_err())
+            .count()
     }
 }

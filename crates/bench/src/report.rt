@@ -3,22 +3,25 @@ use crate::jobs::jobs;
 use crate::sheet;
 use memory::Memory;
 use std::time::Instant;
+use surface::Source;
 
 // A number that depends on every pixel of a line.
 fn digest(line: &[u16; 512]) -> u32 {
-    let mut sum: u32 = 0;
-    for pixel in line {
-        sum = sum.wrapping_mul(31).wrapping_add(*pixel as u32);
-    }
-    sum
+    line.iter().fold(0, |sum: u32, pixel| {
+        sum.wrapping_mul(31).wrapping_add(u32::from(*pixel))
+    })
 }
 
 // A few spans of each job, and the digest of the line that they leave.
 pub(crate) fn check_all<M: Memory>(rt: &HostRuntime, from: &str, memory: &M) -> anyhow::Result<()> {
     let palette = sheet::palette();
+    let source = Source {
+        memory,
+        palette: &palette,
+    };
     for job in jobs() {
         let mut line = [0u16; 512];
-        let refused = job.draw(&mut line, 16, memory, &palette);
+        let refused = job.draw(&mut line, 16, source);
         let name = job.name;
         let sum = digest(&line);
         println!(rt; "{name}, from {from}: 16 spans, {refused} refused, digest 0x{sum:08X}")?;
@@ -39,10 +42,14 @@ pub(crate) fn time_all<M: Memory>(
     spans: u32,
 ) -> anyhow::Result<()> {
     let palette = sheet::palette();
+    let source = Source {
+        memory,
+        palette: &palette,
+    };
     for job in jobs() {
         let mut line = [0u16; 512];
         let start = Instant::now(rt)?;
-        let refused = job.draw(&mut line, spans, memory, &palette);
+        let refused = job.draw(&mut line, spans, source);
         let rate = rate(spans, job.columns, start.elapsed(rt)?.as_micros());
         let name = job.name;
         println!(rt;

@@ -1,19 +1,15 @@
 -- Drawings by their format, and drawings that paint alike.
-use Rattle.std.proofs.Common.{◌≡◌, ℕ, ◌%◌, ◌<◌, false, List, ℤ, pos, negsuc, Some, Option, Result, ap, ◌∙◌, subst, arith}
+use Rattle.std.proofs.Common.{◌≡◌, ℕ, ◌%◌, ◌<◌, false, List, ℤ, pos, negsuc, Some, Option, ap, ◌∙◌, arith}
 use mathlib.Core.Path.{fun_ext}
 use Rattle.memory.specs.Outcomes.{Outcome}
-use Rattle.surface.specs.declared.format.Format.{Format}
 use Rattle.surface.specs.Formats.{layout_of}
 use Rattle.surface.specs.Lookups.{Lookup}
 use Rattle.painter.specs.declared.blit.Blit as blit
 use Rattle.painter.specs.declared.tile.Tile as tile
 use Rattle.painter.specs.declared.clip.Clip.{Clip}
-use Rattle.painter.specs.declared.drawing.Drawing.{Drawing}
 use Rattle.painter.specs.declared.drawing.Drawing.TheVariants.{Blit, Tile}
-use Rattle.painter.specs.declared.span_refusal.SpanRefusal.{SpanRefusal}
-use Rattle.painter.specs.Drawings.{format_of, side_of, lookup_in, span_in, drawing_span, ChangesNothing}
-use Rattle.painter.specs.Mappings.{inside, difference, modulo, apart, in_square, blit_place, tile_place, ablit_place, atile_place, transformed, scaled, identity}
-use Rattle.painter.specs.SpanLaws.{Paints}
+use Rattle.painter.specs.Drawings.{side_of, lookup_in, ChangesNothing}
+use Rattle.painter.specs.Mappings.{inside, difference, modulo, apart, in_square, blit_place, tile_place, ablit_place, atile_place, transformed, identity}
 use Rattle.painter.specs.Spans.{span, painted}
 use Rattle.painter.proofs.Coordinates.{along_x, along_y}
 

@@ -48,11 +48,7 @@ impl Mapping for Blit {
         let side = self.side();
         let dx = distance(x, self.x0);
         let dy = distance(y, self.y0);
-        if dx < side && dy < side {
-            Some((dx, dy))
-        } else {
-            None
-        }
+        (dx < side && dy < side).then_some((dx, dy))
     }
 
     // All if line y is outside the square, and else those up to where the distance from x0 comes round to 0.

@@ -10,6 +10,7 @@ pub trait Mapping {
         ensures { result ≡ place self.now y x };
 
     // How many columns right after column x are outside the region, up to the next one inside; at most 1,023.
+    // No body is provided: 0 is not proved of every mapping, and a count asks for columns past the last u16.
     fn columns_outside(&self, y: u16, x: u16) -> u16
         ensures outside { (k : ℕ) → k < result → place self.now y (x + 1 + k) ≡ None }
         ensures next { result < 1023 → is_some (place self.now y (x + 1 + result)) ≡ true }

@@ -1,7 +1,7 @@
 // One line of the strip.
 use memory::Card;
-use painter::{Clip, Drawing, Fill, SpanRefusal, Tile, draw};
-use surface::{Format, Palette};
+use painter::{Clip, Drawing, Fill, Painter, SpanRefusal, Tile};
+use surface::{Format, Palette, Source};
 
 // How many columns and lines the strip has: eight stops, with a tile each.
 pub(crate) const COLUMNS: usize = 64;
@@ -38,8 +38,19 @@ fn marks() -> Drawing {
 
 // Paints line y of the strip, over the night.
 pub(crate) fn paint_line(line: &mut [u16; 512], y: u16, card: &Card) -> Result<(), SpanRefusal> {
-    let palette = palette();
-    let night = Drawing::Fill(Fill { colour: NIGHT });
-    draw(line, Clip { start: 0, end: 511 }, y, night, card, &palette)?;
-    draw(line, Clip { start: 0, end: 63 }, y, marks(), card, &palette)
+    let source = Source {
+        memory: card,
+        palette: &palette(),
+    };
+    let line_painter = Painter {
+        source,
+        clip: Clip { start: 0, end: 511 },
+        y,
+    };
+    let strip_painter = Painter {
+        clip: Clip { start: 0, end: 63 },
+        ..line_painter
+    };
+    line_painter.draw(line, Drawing::Fill(Fill { colour: NIGHT }))?;
+    strip_painter.draw(line, marks())
 }

@@ -1,10 +1,8 @@
 // The strip as text.
 use crate::strip;
 use memory::Card;
-use painter::SpanRefusal;
 use std::alloc::{AllocError, Global};
 use std::io;
-use surface::Reading;
 
 // Which letter stands for a pixel.
 fn letter(pixel: u16) -> char {
@@ -22,17 +20,6 @@ fn letters(heap: Global, line: &[u16; 512]) -> Result<String, AllocError> {
         text.push(letter(*pixel))?;
     }
     Ok(text)
-}
-
-fn print_refusal(rt: &HostRuntime, refused: SpanRefusal) -> io::Result<()> {
-    let number = refused.fault.refusal.number();
-    let address = refused.fault.address;
-    let column = refused.column;
-    let reading = match refused.fault.reading {
-        Reading::TileIndex => "tile index",
-        Reading::Pixel => "pixel",
-    };
-    println!(rt; " refused {number}, reading {reading} 0x{address:08X}, column {column}")
 }
 
 // The pixels of the last stop of zone 1 and the first of zone 2.
@@ -56,7 +43,7 @@ pub(crate) fn print(rt: &HostRuntime, path: &str, card: &Card) -> anyhow::Result
         print!(rt; "line {y}: {text}")?;
         match answer {
             Ok(()) => rt.println("")?,
-            Err(refused) => print_refusal(rt, refused)?,
+            Err(refused) => println!(rt; " {refused}")?,
         }
         if y == 3 {
             print_pixels(rt, &line)?;

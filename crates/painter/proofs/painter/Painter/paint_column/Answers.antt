@@ -1,4 +1,4 @@
-use Rattle.std.proofs.Common.{◌≡◌, Ok, sym, ap, arith, rules}
+use Rattle.std.proofs.Common.{◌≡◌, Ok, arith, rules}
 use Rattle.surface.specs.Lookups.{folded}
 use Rattle.surface.specs.Sources.{colour_from}
 use Rattle.painter.proofs.Sweeps.{opaque_put}
