@@ -1,37 +1,25 @@
 // Spans on a line: clips, refusals, and drawings that paint alike.
 use memory::Flat;
-use painter::{Ablit, Blit, Clip, Drawing, Fill, SpanRefusal, Transform, draw};
+use painter::{Ablit, Blit, Clip, Drawing, Fill, Painter, SpanRefusal, Transform};
 use std::test::Fail;
-use surface::{Format, Palette, Reading};
+use surface::{Format, Palette, Reading, Source};
 
 const PINK: u16 = 0x7C1F;
 
 // How many columns of a line are pink, and the first of them.
 fn pink(line: &[u16; 512]) -> (usize, Option<usize>) {
-    let mut count: usize = 0;
-    let mut first = None;
-    for (x, pixel) in line.iter().enumerate() {
-        if *pixel == PINK {
-            count = count.wrapping_add(1);
-            if first.is_none() {
-                first = Some(x);
-            }
-        }
-    }
-    (count, first)
+    let count = line.iter().filter(|pixel| **pixel == PINK).count();
+    (count, line.iter().position(|pixel| *pixel == PINK))
 }
 
 fn fill_clip(start: u16, end: u16) -> (usize, Option<usize>) {
     let mut line = [0u16; 512];
-    let fill = Drawing::Fill(Fill { colour: PINK });
-    let _ = draw(
-        &mut line,
-        Clip { start, end },
-        0,
-        fill,
-        &Flat::new(0, &[]),
-        &Palette::new(),
-    );
+    let source = Source {
+        memory: &Flat::new(0, &[]),
+        palette: &Palette::new(),
+    };
+    let clip = Clip { start, end };
+    let _ = Painter { source, clip, y: 0 }.draw(&mut line, Drawing::Fill(Fill { colour: PINK }));
     pink(&line)
 }
 
@@ -61,8 +49,12 @@ fn draw_over(bytes: &[u8], drawing: Drawing) -> ([u16; 512], Result<(), SpanRefu
     let mut line = [9u16; 512];
     let mut palette = Palette::new();
     palette.write(1, 0x8000 + PINK);
+    let source = Source {
+        memory: &Flat::new(0, bytes),
+        palette: &palette,
+    };
     let clip = Clip { start: 0, end: 511 };
-    let answer = draw(&mut line, clip, 0, drawing, &Flat::new(0, bytes), &palette);
+    let answer = Painter { source, clip, y: 0 }.draw(&mut line, drawing);
     (line, answer)
 }
 

@@ -2,7 +2,7 @@
 use memory::Flat;
 use std::marker::PhantomData;
 use surface::{
-    Argb1555, Image, P1, P4, P8, Palette, Plain, Surface, TileField, is_opaque, rgb, unpack,
+    Argb1555, Image, P1, P4, P8, Palette, Plain, Source, Surface, TileField, is_opaque, rgb, unpack,
 };
 
 #[test]
@@ -45,10 +45,13 @@ fn colour_at<S: Surface>(
     palette.write(2, 0x0002);
     palette.write(0xE1, 0x8111);
     palette.write(0xDF, 0x8222);
-    match surface.colour(at, &Flat::new(base, bytes), &palette) {
-        Ok(colour) => Ok(colour),
-        Err(fault) => Err((fault.refusal.number(), fault.address)),
-    }
+    let source = Source {
+        memory: &Flat::new(base, bytes),
+        palette: &palette,
+    };
+    surface
+        .colour(at, &source)
+        .map_err(|fault| (fault.refusal.number(), fault.address))
 }
 
 fn image<F>(image: u32, poff: u8) -> Image<F> {

@@ -3,15 +3,14 @@ use crate::table::{
     ABLITS, ATILES, BLITS, BlitFields, Span, TILES, TileFields, Told, TransformFields,
 };
 use memory::{Flat, Memory, Split};
-use painter::{Ablit, Atile, Blit, Clip, Drawing, Tile, Transform, draw};
+use painter::{Ablit, Atile, Blit, Clip, Drawing, Painter, SpanRefusal, Tile, Transform};
 use std::process::Abort;
-use std::test::Fail;
-use surface::Palette;
+use surface::{Palette, Reading, Source};
 
 fn sheet() -> [u8; 40000] {
     let mut bytes = [0u8; 40000];
-    for i in 0..40000 {
-        bytes[i] = ((i * i + 3 * i + 7) % 251) as u8;
+    for (i, byte) in bytes.iter_mut().enumerate() {
+        *byte = ((i * i + 3 * i + 7) % 251) as u8;
     }
     bytes
 }
@@ -34,36 +33,34 @@ fn palette() -> Palette {
 }
 
 fn weight_of(line: &[u16; 512]) -> u64 {
-    let mut sum: u64 = 0;
-    for (x, pixel) in line.iter().enumerate() {
-        sum = sum.wrapping_add((x as u64).wrapping_add(1).wrapping_mul(*pixel as u64));
-    }
-    sum
+    line.iter().zip(1..=512).fold(0, |sum: u64, (pixel, x)| {
+        sum.wrapping_add(u64::from(*pixel).wrapping_mul(x))
+    })
 }
 
-// Draws a span on a line of 0x5555, and holds line and answer to what they must be.
-fn check_span<M: Memory>(
-    rt: &impl Abort,
-    memory: &M,
-    drawing: Drawing,
-    (y, start, end): Span,
-    weight: u64,
-    told: Told,
-) -> Result<(), Fail> {
+// The number, the reading, the address and the column of a refusal.
+fn told_of(refused: SpanRefusal) -> (u8, Reading, u32, u16) {
+    let fault = refused.fault;
+    (
+        fault.refusal.number(),
+        fault.reading,
+        fault.address,
+        refused.column,
+    )
+}
+
+// Draws a case on a line of 0x5555, and holds line and answer to what they must be.
+fn check_case<M: Memory>(rt: &impl Abort, memory: &M, (drawing, span, weight, told): Case) {
+    let (y, start, end) = span;
     let mut line = [0x5555u16; 512];
+    let source = Source {
+        memory,
+        palette: &palette(),
+    };
     let clip = Clip { start, end };
-    match (draw(&mut line, clip, y, drawing, memory, &palette()), told) {
-        (Ok(()), None) => {}
-        (Err(refused), Some((number, reading, address, column))) => {
-            assert_eq!(rt; refused.fault.refusal.number(), number);
-            assert_eq!(rt; refused.fault.reading, reading);
-            assert_eq!(rt; (refused.fault.address, refused.column), (address, column));
-        }
-        (Ok(()), Some(_)) => return Err(Fail::new("not refused")),
-        (Err(_), None) => return Err(Fail::new("refused")),
-    }
+    let answer = Painter { source, clip, y }.draw(&mut line, drawing);
+    assert_eq!(rt; answer.err().map(told_of), told);
     assert_eq!(rt; weight_of(&line), weight);
-    Ok(())
 }
 
 fn blit((size, poff, y0, x0, image, format): BlitFields) -> Blit {
@@ -107,75 +104,64 @@ fn memory(bytes: &[u8; 40000]) -> Split<Flat<'_>, Flat<'_>> {
     Split::new(0x8000_0000, low, Flat::new(0xFFFF_FFF0, &bytes[0..16]))
 }
 
-#[test]
-fn random_blits(rt: HostRuntime) -> Result<(), Fail> {
+// A drawing with its span, and what they must come to.
+type Case = (Drawing, Span, u64, Told);
+
+// Holds each row of a table, read as a case, to what it must come to.
+fn check_rows<R: Copy, F: Fn(R) -> Case>(rt: &impl Abort, rows: &[R], case: &F)
+    requires { F.IsAlwaysCallable case.now }
+{
     let bytes = sheet();
-    for (fields, span, weight, told) in BLITS {
-        check_span(
-            &rt,
-            &memory(&bytes),
-            Drawing::Blit(blit(fields)),
-            span,
-            weight,
-            told,
-        )?;
+    for row in rows {
+        check_case(rt, &memory(&bytes), case(*row));
     }
-    Ok(())
 }
 
 #[test]
-fn random_tiles(rt: HostRuntime) -> Result<(), Fail> {
-    let bytes = sheet();
-    for (fields, span, weight, told) in TILES {
-        check_span(
-            &rt,
-            &memory(&bytes),
-            Drawing::Tile(tile(fields)),
-            span,
-            weight,
-            told,
-        )?;
-    }
-    Ok(())
+fn random_blits(rt: HostRuntime) {
+    check_rows(
+        &rt,
+        &BLITS,
+        &|(fields, span, weight, told)| { (Drawing::Blit(blit(fields)), span, weight, told) },
+    );
 }
 
 #[test]
-fn random_ablits(rt: HostRuntime) -> Result<(), Fail> {
-    let bytes = sheet();
-    for (fields, half, turn, span, weight, told) in ABLITS {
-        let ablit = Ablit {
-            blit: blit(fields),
-            half,
-            transform: transform(turn),
-        };
-        check_span(
-            &rt,
-            &memory(&bytes),
-            Drawing::Ablit(ablit),
-            span,
-            weight,
-            told,
-        )?;
-    }
-    Ok(())
+fn random_tiles(rt: HostRuntime) {
+    check_rows(
+        &rt,
+        &TILES,
+        &|(fields, span, weight, told)| { (Drawing::Tile(tile(fields)), span, weight, told) },
+    );
 }
 
 #[test]
-fn random_atiles(rt: HostRuntime) -> Result<(), Fail> {
-    let bytes = sheet();
-    for (fields, turn, span, weight, told) in ATILES {
-        let atile = Atile {
-            tile: tile(fields),
-            transform: transform(turn),
-        };
-        check_span(
-            &rt,
-            &memory(&bytes),
-            Drawing::Atile(atile),
-            span,
-            weight,
-            told,
-        )?;
-    }
-    Ok(())
+fn random_ablits(rt: HostRuntime) {
+    check_rows(
+        &rt,
+        &ABLITS,
+        &|(fields, half, turn, span, weight, told)| {
+            let ablit = Ablit {
+                blit: blit(fields),
+                half,
+                transform: transform(turn),
+            };
+            (Drawing::Ablit(ablit), span, weight, told)
+        },
+    );
+}
+
+#[test]
+fn random_atiles(rt: HostRuntime) {
+    check_rows(
+        &rt,
+        &ATILES,
+        &|(fields, turn, span, weight, told)| {
+            let atile = Atile {
+                tile: tile(fields),
+                transform: transform(turn),
+            };
+            (Drawing::Atile(atile), span, weight, told)
+        },
+    );
 }

@@ -15,11 +15,10 @@ fn letter(pixel: u16) -> char {
 }
 
 fn letters(heap: Global, line: &[u16; 512]) -> Result<String, AllocError> {
-    let mut text = String::new(heap);
-    for pixel in line.iter().take(strip::COLUMNS) {
-        text.push(letter(*pixel))?;
-    }
-    Ok(text)
+    line.iter()
+        .take(strip::COLUMNS)
+        .map(|pixel| letter(*pixel))
+        .collect(heap)
 }
 
 // The pixels of the last stop of zone 1 and the first of zone 2.
