@@ -6,6 +6,7 @@ use Rattle.surface.specs.declared.format.Format.TheVariants.{Argb1555}
 use Rattle.surface.specs.declared.format.PixelLayout.{PixelLayout}
 use Rattle.surface.specs.Formats.{layout_of}
 use Rattle.surface.specs.Lookups.{Lookup}
+use Rattle.surface.specs.Palettes.{colours}
 use Rattle.surface.specs.Surfaces.{plain_lookup, image_side, image_lookup, tile_side, field_side, tile_lookup}
 use Rattle.painter.specs.declared.affine.Transform.{Transform}
 use Rattle.painter.specs.declared.blit.Blit as blit
@@ -13,6 +14,7 @@ use Rattle.painter.specs.declared.tile.Tile as tile
 use Rattle.painter.specs.declared.clip.Clip.{Clip}
 use Rattle.painter.specs.declared.drawing.Drawing.{Drawing}
 use Rattle.painter.specs.declared.drawing.Drawing.TheVariants.{Fill, Blit, Tile, Ablit, Atile}
+use Rattle.painter.specs.declared.painter.Painter.{Painter}
 use Rattle.painter.specs.Mappings.{fill_place, blit_place, tile_place, ablit_place, atile_place}
 use Rattle.painter.specs.Spans.{Span, span, painted}
 
@@ -61,6 +63,10 @@ span_in format memory palette clip d y = span memory palette clip (place_of d y)
 -- the span of a drawing on line y
 abbrev pub drawing_span : (ℕ → Outcome) → (ℕ → ℕ) → Clip → Drawing → ℕ → Span
 drawing_span memory palette clip d y = span_in (layout_of (format_of d)) memory palette clip d y
+
+-- the span of a drawing that a painter paints; `outcome` says what the memory has
+abbrev pub painter_drawing_span : {M : Type 0} → (M → ℕ → Outcome) → Painter M → Drawing → Span
+painter_drawing_span outcome p d = drawing_span (outcome p.source.memory.now) (colours p.source.palette.now) p.clip d p.y
 
 -- two drawings paint alike: equal lines and equal refusals, over every memory, palette, clip and line y
 abbrev pub PaintAlike : Drawing → Drawing → Type 0

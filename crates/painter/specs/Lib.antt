@@ -3,5 +3,3 @@ pub mod Spans
 pub mod SpanLaws
 pub mod Drawings
 pub mod Columns
-pub mod Painters
-pub mod PaintedDrawings

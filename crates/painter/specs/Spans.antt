@@ -5,7 +5,9 @@ use Rattle.surface.specs.declared.fault.Fault.{Fault}
 use Rattle.surface.specs.Colours.{opaque, painted_pixel}
 use Rattle.surface.specs.Lists.{write_at}
 use Rattle.surface.specs.Lookups.{Lookup, nothing, colour_of, folded}
+use Rattle.surface.specs.Palettes.{colours}
 use Rattle.painter.specs.declared.clip.Clip.{Clip}
+use Rattle.painter.specs.declared.painter.Painter.{Painter}
 use Rattle.painter.specs.declared.span_refusal.SpanRefusal.{SpanRefusal}
 
 -- all that a span depends on: what the memory shows, the palette's colours, the clip, the place of each column on the
@@ -21,6 +23,10 @@ pub record Span : Type 0 where
 abbrev pub span : (ℕ → Outcome) → (ℕ → ℕ) → Clip → (ℕ → Option (ℕ × ℕ)) → ℕ → (ℕ → ℕ → Lookup) → Span
 span memory palette clip place side lookup =
     record { memory = memory; palette = palette; clip = clip; place = place; side = side; lookup = lookup }
+
+-- the span of a painter, with the places of a mapping and what a surface looks up; `outcome` says what the memory has
+abbrev pub painter_span : {M : Type 0} → (M → ℕ → Outcome) → Painter M → (ℕ → ℕ → Option (ℕ × ℕ)) → ℕ → (ℕ → ℕ → Lookup) → Span
+painter_span outcome p place side lookup = span (outcome p.source.memory.now) (colours p.source.palette.now) p.clip (place p.y) side lookup
 
 -- a column lies in the clip, both ends included
 abbrev pub in_clip : Clip → ℕ → Bool

@@ -1,7 +1,6 @@
 ghost use Rattle.std.specs.Prelude.{◌≡◌};
 ghost use Rattle.surface.specs.Formats.{pixels, layout_of};
-ghost use Rattle.painter.specs.Drawings.{format_of};
-ghost use Rattle.painter.specs.PaintedDrawings.{painter_drawing};
+ghost use Rattle.painter.specs.Drawings.{format_of, painter_drawing_span};
 ghost use Rattle.painter.specs.SpanLaws.{Paints};
 
 use crate::ablit::Ablit;
@@ -47,7 +46,7 @@ impl<M: Memory> Painter<'_, M> {
         drawing: Drawing,
     ) -> Result<(), SpanRefusal>
         requires { pixels F.WIDTH F.INDEXED ≡ layout_of (format_of drawing) }
-        ensures { Paints (painter_drawing M.outcome self.now drawing) line.old line.new result }
+        ensures { Paints (painter_drawing_span M.outcome self.now drawing) line.old line.new result }
     {
         match drawing {
             Drawing::Fill(fill) => {
@@ -64,7 +63,7 @@ impl<M: Memory> Painter<'_, M> {
     // Paints a drawing. What it does to the line, and when it is refused, is the painter's contract for the drawing's
     // mapping and surface.
     pub fn draw(&self, line: &mut [u16; 512], drawing: Drawing) -> Result<(), SpanRefusal>
-        ensures { Paints (painter_drawing M.outcome self.now drawing) line.old line.new result }
+        ensures { Paints (painter_drawing_span M.outcome self.now drawing) line.old line.new result }
     {
         match drawing.format() {
             Format::Argb1555 => self.draw_in::<Argb1555>(line, drawing),

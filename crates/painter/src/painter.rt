@@ -1,8 +1,7 @@
 ghost use Rattle.std.specs.Prelude.{◌≡◌, ◌+◌, ◌<◌, min};
 ghost use Rattle.surface.specs.Lookups.{folded};
 ghost use Rattle.surface.specs.Sources.{colour_from};
-ghost use Rattle.painter.specs.Spans.{effect_of, with_effect};
-ghost use Rattle.painter.specs.Painters.{painter_span};
+ghost use Rattle.painter.specs.Spans.{painter_span, effect_of, with_effect};
 ghost use Rattle.painter.specs.SpanLaws.{Paints};
 
 use crate::clip::Clip;

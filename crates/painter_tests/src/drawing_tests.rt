@@ -1,8 +1,8 @@
 // Spans on a line: clips, refusals, and drawings that paint alike.
-use memory::Flat;
+use memory::{Flat, Refusal};
 use painter::{Ablit, Blit, Clip, Drawing, Fill, Painter, SpanRefusal, Transform};
 use std::test::Fail;
-use surface::{Format, Palette, Reading, Source};
+use surface::{Fault, Format, Palette, Reading, Source};
 
 const PINK: u16 = 0x7C1F;
 
@@ -85,6 +85,30 @@ fn a_refusal_keeps_what_is_painted(rt: HostRuntime) -> Result<(), Fail> {
     assert_eq!(rt; (refused.column, refused.fault.address), (8, 4));
     assert_eq!(rt; refused.fault.reading, Reading::Pixel);
     assert_eq!(rt; refused.fault.refusal.number(), 2);
+    Ok(())
+}
+
+#[test]
+fn a_refusal_says_what_was_read(rt: HostRuntime) -> Result<(), Fail> {
+    let pixel = Fault {
+        refusal: Refusal::Unsound,
+        reading: Reading::Pixel,
+        address: 0x20,
+    };
+    let tile_index = Fault {
+        refusal: Refusal::Absent,
+        reading: Reading::TileIndex,
+        address: 0xFFFF_FFFE,
+    };
+    let refused = SpanRefusal {
+        column: 511,
+        fault: tile_index,
+    };
+    let text = format!(in rt.alloc(); "{pixel}; {refused}")?;
+    assert_eq!(rt;
+        text.as_str(),
+        "refused 3, reading pixel 0x00000020; refused 2, reading tile index 0xFFFFFFFE, column 511"
+    );
     Ok(())
 }
 

@@ -1,5 +1,5 @@
 use Rattle.std.proofs.Common.{◌≡◌, ◌+◌, min}
-use Rattle.painter.specs.Painters.{painter_span}
+use Rattle.painter.specs.Spans.{painter_span}
 use Rattle.painter.proofs.Sweeps.{SweptTo}
 use Rattle.painter.proofs.painter.Painter.paint.Given as goal
 
