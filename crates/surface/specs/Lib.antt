@@ -6,3 +6,4 @@ pub mod Lookups
 pub mod Pixels
 pub mod Surfaces
 pub mod Sources
+pub mod Faults

@@ -1,3 +1,6 @@
+ghost use Rattle.std.specs.Prelude.{Some};
+ghost use Rattle.surface.specs.Faults.{reading_text};
+
 use memory::Refusal;
 use std::fmt;
 
@@ -9,11 +12,13 @@ pub enum Reading {
 }
 
 impl fmt::Display for Reading {
+    ghost output = { λ reading. Some (reading_text reading) };
+
     fn fmt<W: fmt::Write>(&self, f: &mut fmt::Formatter<W>) -> fmt::Result {
-        match self {
-            Reading::TileIndex => write!(f, "tile index"),
-            Reading::Pixel => write!(f, "pixel"),
-        }
+        f.write_str(match self {
+            Reading::TileIndex => "tile index",
+            Reading::Pixel => "pixel",
+        })
     }
 }
 

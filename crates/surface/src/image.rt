@@ -4,7 +4,7 @@ ghost use Rattle.surface.specs.Surfaces.{image_side, image_lookup};
 use crate::fault::Fault;
 use crate::format::PixelFormat;
 use crate::pixel::pixel_at;
-use crate::side::power_of_two;
+use crate::side::square_side;
 use crate::source::Source;
 use crate::surface::Surface;
 use memory::Memory;
@@ -26,10 +26,9 @@ impl<F: PixelFormat> Surface for Image<F> {
 
     ghost lookup = { λ s. image_lookup (pixels F.WIDTH F.INDEXED) s.poff s.image (image_side s.size s.half) };
 
-    #[tactic(auto, using(crate::proofs::Sides::halved))]
     fn side(&self) -> u16 {
-        let exponent = self.size % 8 + 3;
-        power_of_two(if self.half { exponent - 1 } else { exponent })
+        let side = square_side(self.size);
+        if self.half { side / 2 } else { side }
     }
 
     #[tactic(auto, using(crate::proofs::Lookups::answers))]

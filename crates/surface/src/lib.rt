@@ -20,7 +20,7 @@ pub use image::Image;
 pub use palette::Palette;
 pub use pixel::unpack;
 pub use plain::Plain;
-pub use side::power_of_two;
+pub use side::square_side;
 pub use source::Source;
 pub use surface::Surface;
 pub use tile_field::TileField;
