@@ -2,6 +2,7 @@ ghost use Rattle.std.specs.Prelude.{◌≡◌, Some};
 ghost use Rattle.std.specs.Fmt.{decimal};
 ghost use Rattle.memory.specs.Refusals.{number, refusal};
 
+use std::error::Error;
 use std::fmt;
 
 // Why a call of the panel's software is refused. Each refusal has a number.
@@ -65,3 +66,5 @@ impl fmt::Display for Refusal {
         write!(f, "{number}")
     }
 }
+
+impl Error for Refusal {}

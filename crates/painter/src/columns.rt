@@ -20,7 +20,7 @@ impl<P: Mapping> Iterator for Columns<'_, P> {
 
     ghost remaining = { λ s. at_most (s.end - s.x) };
 
-    // It jumps over the columns that the mapping says are outside.
+    // A `while` and no `for`, since it jumps over the columns that the mapping says are outside.
     fn next(&mut self) -> Option<(u16, (u16, u16))> {
         let end = self.end;
         let mut x = self.x;

@@ -1,3 +1,4 @@
+use std::error::Error;
 use std::fmt;
 use surface::Fault;
 
@@ -10,8 +11,9 @@ pub struct SpanRefusal {
 
 impl fmt::Display for SpanRefusal {
     fn fmt<W: fmt::Write>(&self, f: &mut fmt::Formatter<W>) -> fmt::Result {
-        let fault = self.fault;
-        let column = self.column;
+        let SpanRefusal { column, fault } = *self;
         write!(f, "{fault}, column {column}")
     }
 }
+
+impl Error for SpanRefusal {}

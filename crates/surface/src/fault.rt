@@ -2,6 +2,7 @@ ghost use Rattle.std.specs.Prelude.{Some};
 ghost use Rattle.surface.specs.Faults.{reading_text};
 
 use memory::Refusal;
+use std::error::Error;
 use std::fmt;
 
 // What a surface was reading when a memory refused.
@@ -32,9 +33,13 @@ pub struct Fault {
 
 impl fmt::Display for Fault {
     fn fmt<W: fmt::Write>(&self, f: &mut fmt::Formatter<W>) -> fmt::Result {
-        let number = self.refusal.number();
-        let reading = self.reading;
-        let address = self.address;
-        write!(f, "refused {number}, reading {reading} 0x{address:08X}")
+        let Fault {
+            refusal,
+            reading,
+            address,
+        } = *self;
+        write!(f, "refused {refusal}, reading {reading} 0x{address:08X}")
     }
 }
+
+impl Error for Fault {}

@@ -1,6 +1,7 @@
 // The strip as a picture.
 use crate::strip;
 use memory::Card;
+use painter::SpanRefusal;
 use std::io;
 use surface::rgb;
 
@@ -24,9 +25,9 @@ pub(crate) fn write(rt: &HostRuntime, card: &Card) -> anyhow::Result<()> {
     for y in 0..strip::LINES {
         let mut line = [0u16; 512];
         if let Err(refused) = strip::paint_line(&mut line, y, card) {
-            let number = refused.fault.refusal.number();
-            let column = refused.column;
-            eprintln!(rt; "line {y}: refused {number} at column {column}")?;
+            let SpanRefusal { column, fault } = refused;
+            let refusal = fault.refusal;
+            eprintln!(rt; "line {y}: refused {refusal} at column {column}")?;
         }
         for _ in 0..ZOOM {
             write_row(rt, &line)?;
