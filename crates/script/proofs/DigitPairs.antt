@@ -1,58 +1,55 @@
--- A loop over pairs of digits, one pair on and at its end.
-use Rattle.std.proofs.Common.{◌≡◌, ℕ, ◌+◌, ◌*◌, ◌/◌, ◌%◌, ◌<◌, ◌≤◌, true, false, ◌&&◌, ltb, List, [], ◌∷◌, ◌++◌, length, get_or, drop, Some, None, Ok, Err, sym, ap, ◌∙◌, ⊎_elim, append_assoc, append-nil, arith}
-use Rattle.std.proofs.lemmas.List.{drop_more, drop_all}
-use Rattle.std.proofs.lemmas.Bool.{lt-ltb, eq-eqb, and_parts, and_cases, and_right, and_from, cases_Bool, cond-true, cond-false}
+-- What `hex::decode` answers, in this crate's words.
+use Rattle.std.proofs.Common.{◌≡◌, ℕ, ◌+◌, ◌*◌, ◌%◌, Bool, true, false, ◌&&◌, ltb, eqb, List, [], ◌∷◌, ◌<◌, ◌≤◌, ⊎_elim, inl, inr, length, Some, None, Ok, Err, Option, Result, refl, sym, ap, ◌∙◌, arith}
+use Rattle.std.specs.Char.{digit_value}
+use Rattle.std.proofs.lemmas.Bool.Decides.{nat_tests}
+use Rattle.std.proofs.lemmas.Bool.{cases_eq, cases_lt, eq-eqb, ne_eqb, eqb-false}
+use Rattle.script.specs.declared.errors.ScriptError.{ScriptError}
 use Rattle.script.specs.declared.errors.ScriptError.TheVariants.{MalformedBytes}
-use Rattle.script.specs.Numbers.{digit_value, all_digits}
-use Rattle.script.specs.Bytes.{pair_value, pair_of, are_pairs, spelled_bytes, bytes_of}
-use Rattle.script.proofs.Spelling.{digits_more, digits_none, digits_all}
+use Rattle.hex.specs.Hex.{decode_of, decode_pairs, hex_digit_value, digit_or_error, ◌>>=◌}
+use Rattle.hex.specs.declared.error.FromHexError.{FromHexError}
+use Rattle.script.specs.Numbers.{all_digits}
+use Rattle.script.specs.Bytes.{spelled_bytes, bytes_of}
 
-some_pair : (a b d : ℕ) → Some d ≡ pair_of a b → ((ltb (digit_value a) 16 && ltb (digit_value b) 16) ≡ true) × (d ≡ pair_value a b)
-some_pair a b d is = grind arith
+-- a digit as `hex` reads it, and its value
+abbrev IsDigit : Option ℕ → ℕ → Type 0
+IsDigit (Some d) value = (ltb value 16 ≡ true) × (d ≡ value)
+IsDigit None value = ltb value 16 ≡ false
 
-no_pair : (a b : ℕ) → None ≡ pair_of a b → (ltb (digit_value a) 16 && ltb (digit_value b) 16) ≡ false
-no_pair a b is = grind arith
+digit : (c : ℕ) → IsDigit (hex_digit_value c) (digit_value c)
+digit c = grind (arith, nat_tests)
 
--- a function of what is left, one pair on
-drop_pair : {Y : Type 0} (F : List ℕ → Y) (bs : List ℕ) (i : ℕ) → 2 * i + 1 < length bs → F (drop (2 * i) bs) ≡ F (get_or bs (2 * i) 0 ∷ get_or bs (2 * i + 1) 0 ∷ drop (2 * (i + 1)) bs)
-drop_pair F bs i within =
-    let next : 2 * i + 1 + 1 ≡ 2 * (i + 1) = omega arith in
-    ap F (drop_more bs (2 * i) 0 (omega arith) ∙ ap (λ l. get_or bs (2 * i) 0 ∷ l) (drop_more bs (2 * i + 1) 0 within ∙ ap (λ n. get_or bs (2 * i + 1) 0 ∷ drop n bs) next))
+-- a decoded text has digits alone, and its bytes are those that it spells
+abbrev pub Decodes : Result (List ℕ) FromHexError → Bool → List ℕ → Type 0
+Decodes (Ok bytes) digits spelled = (digits ≡ true) × (bytes ≡ spelled)
+Decodes (Err e) digits spelled = digits ≡ false
 
-module _ (bs : List ℕ) (i : ℕ) (within : 2 * i + 1 < length bs) where
-  pub pairs_more : (d : ℕ) → all_digits 16 (drop (2 * i) bs) ≡ all_digits 16 bs → Some d ≡ pair_of (get_or bs (2 * i) 0) (get_or bs (2 * i + 1) 0) → all_digits 16 (drop (2 * (i + 1)) bs) ≡ all_digits 16 bs
-  pairs_more d old is =
-      let both : (ltb (digit_value (get_or bs (2 * i) 0)) 16 ≡ true) × (ltb (digit_value (get_or bs (2 * i + 1) 0)) 16 ≡ true) = and_parts _ _ (some_pair (get_or bs (2 * i) 0) (get_or bs (2 * i + 1) 0) d is).0 in
-      let next : 2 * (i + 1) ≡ 2 * i + 1 + 1 = omega arith in
-      ap (λ n. all_digits 16 (drop n bs)) next ∙ digits_more 16 bs (2 * i + 1) within (digits_more 16 bs (2 * i) (omega arith) old both.0) both.1
+pair : (a b i high low : ℕ) (h l : Option ℕ) (rest : Result (List ℕ) FromHexError) (digits : Bool) (spelled : List ℕ) → IsDigit h high → IsDigit l low → Decodes rest digits spelled
+    → Decodes ((digit_or_error a i h >>= (λ x. digit_or_error b (i + 1) l >>= (λ y. Ok (x * 16 + y)))) >>= (λ byte. rest >>= (λ bytes. Ok (byte ∷ bytes))))
+      (ltb high 16 && (ltb low 16 && digits)) ((16 * high + low) ∷ spelled)
+pair a b i high low (Some x) (Some y) (Ok bytes) digits spelled p q r = grind arith
+pair a b i high low (Some x) (Some y) (Err e) digits spelled p q r = grind arith
+pair a b i high low (Some x) None rest digits spelled p q r = grind arith
+pair a b i high low None l rest digits spelled p q r = grind arith
 
-  pub pairs_none : all_digits 16 (drop (2 * i) bs) ≡ all_digits 16 bs → None ≡ pair_of (get_or bs (2 * i) 0) (get_or bs (2 * i + 1) 0) → Err MalformedBytes ≡ bytes_of bs
-  pairs_none old is =
-      let none : all_digits 16 bs ≡ false =
-      ⊎_elim
-      (λ (high : ltb (digit_value (get_or bs (2 * i) 0)) 16 ≡ true).
-      ⊎_elim
-      (λ (off : ltb (digit_value (get_or bs (2 * i) 0)) 16 ≡ false). digits_none 16 bs (2 * i) (omega arith) old off)
-      (λ (low : ltb (digit_value (get_or bs (2 * i + 1) 0)) 16 ≡ false). digits_none 16 bs (2 * i + 1) within (digits_more 16 bs (2 * i) (omega arith) old high) low)
-      (and_cases _ _ (no_pair (get_or bs (2 * i) 0) (get_or bs (2 * i + 1) 0) is)))
-      (λ (off : ltb (digit_value (get_or bs (2 * i) 0)) 16 ≡ false). digits_none 16 bs (2 * i) (omega arith) old off)
-      (cases_Bool (ltb (digit_value (get_or bs (2 * i) 0)) 16)) in
-      sym (cond-false _ _ _ (and_right _ _ none))
+pub decodes : (i : ℕ) (bs : List ℕ) → length bs % 2 ≡ 0 → Decodes (decode_pairs i bs) (all_digits 16 bs) (spelled_bytes bs)
+unfolding decode_pairs
+decodes i [] even = (refl, refl)
+decodes i (a ∷ []) even = absurd (omega arith)
+decodes i (a ∷ b ∷ bs) even = pair a b i _ _ _ _ _ _ _ (digit a) (digit b) (decodes (i + 2) bs (omega arith))
 
-  pub bytes_more : (xs ys : List ℕ) (d : ℕ) → xs ++ spelled_bytes (drop (2 * i) bs) ≡ spelled_bytes bs → Some d ≡ pair_of (get_or bs (2 * i) 0) (get_or bs (2 * i + 1) 0) → ys ≡ xs ++ d ∷ []
-      → ys ++ spelled_bytes (drop (2 * (i + 1)) bs) ≡ spelled_bytes bs
-  bytes_more xs ys d old is pushed =
-      let value = (some_pair (get_or bs (2 * i) 0) (get_or bs (2 * i + 1) 0) d is).1 in
-      ap (λ l. l ++ spelled_bytes (drop (2 * (i + 1)) bs)) pushed
-      ∙ append_assoc xs (d ∷ []) (spelled_bytes (drop (2 * (i + 1)) bs))
-      ∙ ap (λ v. xs ++ v ∷ spelled_bytes (drop (2 * (i + 1)) bs)) value
-      ∙ sym (ap (λ l. xs ++ l) (drop_pair spelled_bytes bs i within))
-      ∙ old
+-- the answer of `decode` is what the script says, but for the kind of the error
+abbrev pub Reads : Result (List ℕ) FromHexError → Result (List ℕ) ScriptError → Type 0
+Reads (Ok bytes) said = Ok bytes ≡ said
+Reads (Err e) said = Err MalformedBytes ≡ said
 
-pub bytes_all : (bs xs : List ℕ) (i : ℕ) → 0 < length bs → (length bs % 2 ≡ 1 → ⊥) → length bs / 2 ≤ i → all_digits 16 (drop (2 * i) bs) ≡ all_digits 16 bs
-    → xs ++ spelled_bytes (drop (2 * i) bs) ≡ spelled_bytes bs → Ok xs ≡ bytes_of bs
-bytes_all bs xs i some even end old is =
-    let past : length bs ≤ 2 * i = omega arith in
-    let pairs : are_pairs bs ≡ true =
-    and_from _ _ (and_from _ _ (lt-ltb 0 (length bs) some) (eq-eqb (length bs % 2) 0 (omega arith))) (digits_all 16 bs (2 * i) past old) in
-    ap Ok (sym (append-nil xs) ∙ sym (ap (λ l. xs ++ spelled_bytes l) (drop_all (2 * i) bs past)) ∙ is) ∙ sym (cond-true _ _ _ pairs)
+even_reads : (bs : List ℕ) (r : Result (List ℕ) FromHexError) → 0 < length bs → length bs % 2 ≡ 0 → Decodes r (all_digits 16 bs) (spelled_bytes bs) → Reads r (bytes_of bs)
+even_reads bs (Ok bytes) some even h = grind arith
+even_reads bs (Err e) some even h = grind arith
+
+pub reads : (bs : List ℕ) → false ≡ eqb (length bs) 0 → Reads (decode_of bs) (bytes_of bs)
+reads bs is =
+    let some : 0 < length bs = omega (arith, eqb-false _ 0 (sym is)) in
+    elim (cases_eq (length bs % 2) 1) [
+      | inl odd ↦ rw (eq-eqb _ _ odd) (grind arith)
+      | inr even ↦ rw (ne_eqb _ _ even) (even_reads bs (decode_pairs 0 bs) some (omega arith) (decodes 0 bs (omega arith)))
+    ]

@@ -10,7 +10,7 @@ use Rattle.std.proofs.lemmas.Str.Ascii.{IsAscii-nil, IsAscii-cons}
 use Rattle.std.proofs.lemmas.Str.{IsUtf8-from_ascii}
 use Rattle.script.specs.declared.errors.ScriptError.{ScriptError}
 use Rattle.script.specs.declared.errors.ScriptError.TheVariants.{NoSuchCommand, OutOfMemory}
-use Rattle.script.specs.Commands.{IsPoke, command_of, remark, has, word_of, pieces_of}
+use Rattle.script.specs.Commands.{IsPoke, command_of, remark, has, word_of, pieces_of, line_of}
 use Rattle.script.specs.Fields.{then}
 use Rattle.script.specs.Pieces.{first_piece, behind}
 
@@ -27,10 +27,6 @@ no_command word bs card ram boundary poke peek =
     let e4 = other word (codes "poke") poke in
     let e5 = other word (codes "peek") peek in
     rw (e1, e2, e3, e4, e5) refl
-
--- what `contains` answers
-pub has_is : (b : ℕ) (xs : List ℕ) (r : Bool) → IsAnyAnswer (λ y t. eqb y b ≡ t) xs r → r ≡ has b xs
-has_is b xs r h = same_from_decides r (has b xs) (contains_decides eqb Decides-eqb xs b r h) (Decides-by_or (λ x. eqb x b) (λ x. x ≡ b) (has b) (λ x. Decides-eqb x b) refl (λ _ _. refl) xs)
 
 abbrev all_small : List ℕ → Bool
 all_small [] = true
@@ -55,19 +51,11 @@ at_word : (word bs : List ℕ) → 0 < length word → word_of word bs ≡ then 
 at_word [] bs some = absurd (omega arith)
 at_word (b ∷ word) bs some = refl
 
-module _ (rest word : List ℕ) (is : word ≡ first_piece rest) (some : 0 < length word) where
-  at_piece : pieces_of rest ≡ then (command_of word (behind rest)) (λ command. Ok (Some command))
-  at_piece = ap (λ w. word_of w (behind rest)) (sym is) ∙ at_word word (behind rest) some
+-- a line whose word is no text
+module _ (line word : List ℕ) (is : word ≡ first_piece line) (some : 0 < length word) where
+  at_piece : pieces_of line ≡ then (command_of word (behind line)) (λ command. Ok (Some command))
+  at_piece = ap (λ w. word_of w (behind line)) (sym is) ∙ at_word word (behind line) some
 
-  pub no_text_line : (IsUtf8 word → ⊥) → Err NoSuchCommand ≡ pieces_of rest
-  no_text_line no_text = ap (λ said. then said (λ command. Ok (Some command))) (no_text_word word no_text (behind rest)) ∙ sym at_piece
-
-  pub error_line : (e : ScriptError) (bs : List ℕ) → bs ≡ behind rest → (Err e ≡ command_of word bs) ⊎ ((e ≡ OutOfMemory) × IsPoke word)
-      → (Err e ≡ pieces_of rest) ⊎ ((e ≡ OutOfMemory) × IsPoke (first_piece rest))
-  error_line e bs after said =
-      ⊎_elim (λ h. inl (ap (λ m. then m (λ command. Ok (Some command))) (h ∙ ap (command_of word) after) ∙ sym at_piece)) (λ h. inr (h.0, sym is ∙ h.1)) said
-
--- an empty line is no remark
-pub empty_no_remark : (bs : List ℕ) (t : Bool) → t ≡ eqb (length bs) 0 → t ≡ true → not t ≡ remark bs
-empty_no_remark [] t is e = ap not e
-empty_no_remark (b ∷ bs) t is e = absurd (let none : length (b ∷ bs) ≡ 0 = eqb-true _ _ (sym is ∙ e) in omega arith)
+  pub no_text_line : false ≡ remark line → false ≡ has 13 line → (IsUtf8 word → ⊥) → Err NoSuchCommand ≡ line_of line
+  no_text_line plain clean no_text =
+      rw (← plain, ← clean) (ap (λ said. then said (λ command. Ok (Some command))) (no_text_word word no_text (behind line)) ∙ sym at_piece)

@@ -1,8 +1,9 @@
 -- Bytes as a script writes them: two hexadecimal digits each.
 use Rattle.std.specs.Prelude.{ℕ, ◌+◌, ◌*◌, ◌%◌, Bool, cond, ◌&&◌, List, [], ◌∷◌, length, Some, None, Ok, Err, Option, Result, ◌==◌, nat_lt}
+use Rattle.std.specs.Char.{digit_value}
 use Rattle.script.specs.declared.errors.ScriptError.{ScriptError}
 use Rattle.script.specs.declared.errors.ScriptError.TheVariants.{MalformedBytes}
-use Rattle.script.specs.Numbers.{digit_value, all_digits}
+use Rattle.script.specs.Numbers.{all_digits}
 
 -- the byte that two digits spell, the first counting sixteen
 abbrev pub pair_value : ℕ → ℕ → ℕ

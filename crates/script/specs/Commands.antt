@@ -1,5 +1,6 @@
 -- The commands that a line spells.
-use Rattle.std.specs.Prelude.{◌≡◌, ℕ, Bool, false, cond, ◌||◌, ◌⊎◌, List, [], ◌∷◌, Some, None, Ok, Err, vec_items, codes, Option, Result, ◌==◌, slice_index}
+use Rattle.std.specs.Prelude.{◌≡◌, ℕ, Bool, false, cond, ◌||◌, ◌⊎◌, List, [], ◌∷◌, Some, None, Ok, Err, vec_items, codes, Option, Result, ◌==◌, nat_eq}
+use Rattle.std.specs.List.{list_any, starts_with}
 use Rattle.std.specs.Str.{bytes_eq}
 use Rattle.script.specs.declared.errors.ScriptError.{ScriptError}
 use Rattle.script.specs.declared.errors.ScriptError.TheVariants.{CarriageReturn, NoSuchCommand, OutOfMemory}
@@ -59,8 +60,7 @@ command_of word bs =
 
 -- the byte stands somewhere
 abbrev pub has : ℕ → List ℕ → Bool
-has b [] = false
-has b (x ∷ xs) = x == b || has b xs
+has b bs = list_any (λ x. x == b) bs
 
 -- pieces: the command that the first one begins, if there is one
 abbrev pub word_of : List ℕ → List ℕ → Result (Option Meaning) ScriptError
@@ -72,7 +72,7 @@ pieces_of bs = word_of (first_piece bs) (behind bs)
 
 -- a remark begins with #
 abbrev pub remark : List ℕ → Bool
-remark bs = slice_index bs 0 == 35
+remark bs = starts_with nat_eq bs (codes "#")
 
 -- a line: a remark has no command, and no other line may have a carriage return
 abbrev pub line_of : List ℕ → Result (Option Meaning) ScriptError
@@ -82,6 +82,11 @@ line_of bs = cond (remark bs) (Ok None) (cond (has 13 bs) (Err CarriageReturn) (
 abbrev pub Means : Type 0 → Result Command ScriptError → Result Meaning ScriptError → Type 0
 Means P (Ok command) said = Ok (meaning command) ≡ said
 Means P (Err e) said = (Err e ≡ said) ⊎ ((e ≡ OutOfMemory) × P)
+
+-- the same of a command whose fields were read, with what is left behind them: nothing but spaces may be
+abbrev pub MeansAtEnd : Type 0 → Result Command ScriptError → List ℕ → Result Meaning ScriptError → Type 0
+MeansAtEnd P (Ok command) rest said = then (end_of (first_piece rest)) (λ _. Ok (meaning command)) ≡ said
+MeansAtEnd P (Err e) rest said = (Err e ≡ said) ⊎ ((e ≡ OutOfMemory) × P)
 
 abbrev pub meaning_of : Option Command → Option Meaning
 meaning_of (Some command) = Some (meaning command)

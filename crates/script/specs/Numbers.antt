@@ -1,16 +1,9 @@
 -- Numbers as a script writes them.
-use Rattle.std.specs.Prelude.{ℕ, ◌+◌, ◌-◌, ◌*◌, min, Bool, true, false, cond, ◌&&◌, List, [], ◌∷◌, length, drop, Some, None, Ok, Err, fold, Option, Result, ◌==◌, nat_le, nat_lt, slice_index}
+use Rattle.std.specs.Prelude.{ℕ, ◌+◌, ◌*◌, min, ℤ, pos, negsuc, neg_ℤ, Bool, true, if◌then◌else◌, ◌&&◌, List, [], ◌∷◌, length, drop, Some, None, Ok, Err, fold, Option, Result, ◌==◌, nat_lt, slice_index}
+use Rattle.std.specs.Option.{option_map, ok_or}
+use Rattle.std.specs.Char.{digit_value}
 use Rattle.script.specs.declared.errors.ScriptError.{ScriptError}
 use Rattle.script.specs.declared.errors.ScriptError.TheVariants.{MalformedNumber, NumberTooLarge}
-use Rattle.script.specs.declared.numbers.Number.{Number}
-
--- what a digit counts, a letter in either case; 16 for a byte that is no digit
-abbrev pub digit_value : ℕ → ℕ
-digit_value b = cond (nat_le 48 b && nat_le b 57) (b - 48) (cond (nat_le 65 b && nat_le b 70) (b - 55) (cond (nat_le 97 b && nat_le b 102) (b - 87) 16))
-
--- the digit that a byte is in a radix
-abbrev pub digit_in : ℕ → ℕ → Option ℕ
-digit_in radix b = cond (nat_lt (digit_value b) radix) (Some (digit_value b)) None
 
 -- every byte is a digit in the radix
 abbrev pub all_digits : ℕ → List ℕ → Bool
@@ -23,21 +16,24 @@ spelled radix bs = fold (λ n b. n * radix + digit_value b) 0 bs
 
 -- at least one digit and nothing else: what they spell, of which 2^32 and more are not told apart
 abbrev pub size_of : ℕ → List ℕ → Option ℕ
-size_of radix bs = cond (nat_lt 0 (length bs) && all_digits radix bs) (Some (min 4294967296 (spelled radix bs))) None
+size_of radix bs = if nat_lt 0 (length bs) && all_digits radix bs then Some (min 4294967296 (spelled radix bs)) else None
 
 -- the size of a number without sign: hexadecimal behind 0x, else decimal
 abbrev pub unsigned_size : List ℕ → Option ℕ
-unsigned_size bs = cond (slice_index bs 0 == 48 && slice_index bs 1 == 120) (size_of 16 (drop 2 bs)) (size_of 10 bs)
+unsigned_size bs = if slice_index bs 0 == 48 && slice_index bs 1 == 120 then size_of 16 (drop 2 bs) else size_of 10 bs
 
--- a size with its sign
-abbrev pub with_sign : Bool → Option ℕ → Result Number ScriptError
-with_sign negative (Some n) = Ok (record { negative = negative; size = n })
-with_sign negative None = Err MalformedNumber
+-- a size, and a size behind a minus sign, as numbers
+abbrev pub signed : Option ℕ → Option ℤ
+signed size = option_map (λ n. pos n) size
+
+abbrev pub negated : Option ℕ → Option ℤ
+negated size = option_map (λ n. neg_ℤ (pos n)) size
 
 -- behind a minus sign stands a decimal number
-abbrev pub number_of : List ℕ → Result Number ScriptError
-number_of bs = cond (slice_index bs 0 == 45) (with_sign true (size_of 10 (drop 1 bs))) (with_sign false (unsigned_size bs))
+abbrev pub number_of : List ℕ → Result ℤ ScriptError
+number_of bs = ok_or (if slice_index bs 0 == 45 then negated (size_of 10 (drop 1 bs)) else signed (unsigned_size bs)) MalformedNumber
 
 -- a number held to 32 bits without sign
-abbrev pub unsigned_32 : Number → Result ℕ ScriptError
-unsigned_32 n = cond (n.negative && nat_lt 0 n.size) (Err NumberTooLarge) (cond (nat_lt n.size 4294967296) (Ok n.size) (Err NumberTooLarge))
+abbrev pub unsigned_32 : ℤ → Result ℕ ScriptError
+unsigned_32 (pos n) = if nat_lt n 4294967296 then Ok n else Err NumberTooLarge
+unsigned_32 (negsuc n) = Err NumberTooLarge

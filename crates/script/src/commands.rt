@@ -1,6 +1,5 @@
 // The command that a line of a script spells.
-ghost use Rattle.std.specs.Prelude.{◌≡◌};
-ghost use Rattle.script.specs.Commands.{Means, LineMeans, IsPoke, remark, has, line_of, pieces_of, card_of, ram_of, boundary_of, poke_of, peek_of, command_of};
+ghost use Rattle.script.specs.Commands.{Means, MeansAtEnd, LineMeans, IsPoke, line_of, command_of};
 ghost use Rattle.script.specs.Pieces.{first_piece};
 
 use crate::errors::ScriptError;
@@ -8,7 +7,7 @@ use crate::pieces::Pieces;
 use std::alloc::Global;
 
 // A command with its fields.
-#[derive(Drop)]
+#[derive(Debug, Drop)]
 pub enum Command<'a> {
     Card { base: u32, path: &'a [u8] },
     Ram { base: u32, size: u32 },
@@ -17,82 +16,18 @@ pub enum Command<'a> {
     Peek { address: u32 },
 }
 
-impl<'a> Command<'a> {
-    fn card(mut pieces: Pieces<'a>) -> Result<Command<'a>, ScriptError>
-        ensures { Means ⊥ result (card_of pieces.entry.rest.now) }
-    {
-        let base = pieces.next_u32()?;
-        let path = pieces.required()?;
-        pieces.end()?;
-        Ok(Command::Card { base, path })
-    }
-
-    fn ram(mut pieces: Pieces<'a>) -> Result<Command<'a>, ScriptError>
-        ensures { Means ⊥ result (ram_of pieces.entry.rest.now) }
-    {
-        let base = pieces.next_u32()?;
-        let size = pieces.next_u32()?;
-        pieces.end()?;
-        Ok(Command::Ram { base, size })
-    }
-
-    fn boundary(mut pieces: Pieces<'a>) -> Result<Command<'a>, ScriptError>
-        ensures { Means ⊥ result (boundary_of pieces.entry.rest.now) }
-    {
-        let address = pieces.next_u32()?;
-        pieces.end()?;
-        Ok(Command::Boundary { address })
-    }
-
-    fn poke(heap: Global, mut pieces: Pieces<'a>) -> Result<Command<'a>, ScriptError>
-        ensures { Means (Unit {0}) result (poke_of pieces.entry.rest.now) }
-    {
-        let address = pieces.next_u32()?;
-        let bytes = pieces.next_bytes(heap)?;
-        pieces.end()?;
-        Ok(Command::Poke { address, bytes })
-    }
-
-    fn peek(mut pieces: Pieces<'a>) -> Result<Command<'a>, ScriptError>
-        ensures { Means ⊥ result (peek_of pieces.entry.rest.now) }
-    {
-        let address = pieces.next_u32()?;
-        pieces.end()?;
-        Ok(Command::Peek { address })
-    }
-}
-
 // The command of a line, without its line feed; a blank line and a remark have none. Only a poke, which keeps its
 // bytes, can find no memory.
 pub fn parse<'a>(heap: Global, line: &'a [u8]) -> Result<Option<Command<'a>>, ScriptError>
     ensures { LineMeans (IsPoke (first_piece line.now)) result (line_of line.now) }
 {
-    if is_remark(line) {
+    if line.starts_with(b"#") {
         return Ok(None);
     }
-    if has_carriage_return(line) {
+    if line.contains(&b'\r') {
         return Err(ScriptError::CarriageReturn);
     }
-    read_pieces(heap, Pieces::new(line))
-}
-
-// Whether the very first byte is a #.
-fn is_remark(line: &[u8]) -> bool
-    ensures { result ≡ remark line.now }
-{
-    !line.is_empty() && line[0] == b'#'
-}
-
-fn has_carriage_return(line: &[u8]) -> bool
-    ensures { result ≡ has 13 line.now }
-{
-    line.contains(&b'\r')
-}
-
-// The command that pieces spell, if there are any.
-fn read_pieces<'a>(heap: Global, mut pieces: Pieces<'a>) -> Result<Option<Command<'a>>, ScriptError>
-    ensures { LineMeans (IsPoke (first_piece pieces.entry.rest.now)) result (pieces_of pieces.entry.rest.now) }
-{
+    let mut pieces = Pieces::new(line);
     let Some(word) = pieces.next() else {
         return Ok(None);
     };
@@ -107,16 +42,42 @@ fn read_pieces<'a>(heap: Global, mut pieces: Pieces<'a>) -> Result<Option<Comman
 fn read_command<'a>(
     heap: Global,
     word: &str,
-    pieces: Pieces<'a>,
+    mut pieces: Pieces<'a>,
 ) -> Result<Command<'a>, ScriptError>
-    ensures { Means (IsPoke word.now) result (command_of word.now pieces.entry.rest.now) }
+    ensures { Means (IsPoke word.now) result (command_of word.now pieces.entry) }
+{
+    let command = read_fields(heap, word, &mut pieces)?;
+    pieces.end()?;
+    Ok(command)
+}
+
+// The same, whatever stands behind the fields.
+fn read_fields<'a>(
+    heap: Global,
+    word: &str,
+    pieces: &mut Pieces<'a>,
+) -> Result<Command<'a>, ScriptError>
+    ensures { MeansAtEnd (IsPoke word.now) result pieces.new (command_of word.now pieces.old) }
 {
     match word {
-        "card" => Command::card(pieces),
-        "ram" => Command::ram(pieces),
-        "boundary" => Command::boundary(pieces),
-        "poke" => Command::poke(heap, pieces),
-        "peek" => Command::peek(pieces),
+        "card" => Ok(Command::Card {
+            base: pieces.next_u32()?,
+            path: pieces.required()?,
+        }),
+        "ram" => Ok(Command::Ram {
+            base: pieces.next_u32()?,
+            size: pieces.next_u32()?,
+        }),
+        "boundary" => Ok(Command::Boundary {
+            address: pieces.next_u32()?,
+        }),
+        "poke" => Ok(Command::Poke {
+            address: pieces.next_u32()?,
+            bytes: pieces.next_bytes(heap)?,
+        }),
+        "peek" => Ok(Command::Peek {
+            address: pieces.next_u32()?,
+        }),
         _ => Err(ScriptError::NoSuchCommand),
     }
 }

@@ -1,5 +1,11 @@
 // Why a line of a script is not carried out.
-#[derive(Clone, Copy, PartialEq, Eq, Debug)]
+ghost use Rattle.std.specs.Prelude.{◌≡◌, Some};
+ghost use Rattle.script.specs.Errors.{message};
+
+use std::error::Error;
+use std::fmt;
+
+#[derive(Clone, Copy, PartialEq, Eq, Hash, Debug)]
 pub enum ScriptError {
     // a line that is no remark has a carriage return
     CarriageReturn,
@@ -24,3 +30,28 @@ pub enum ScriptError {
     // there is no memory to carry the line out
     OutOfMemory,
 }
+
+// What is wrong, in words.
+impl fmt::Display for ScriptError {
+    ghost output = { λ error. Some (message error) };
+
+    fn fmt<W: fmt::Write>(&self, f: &mut fmt::Formatter<W>) -> fmt::Result {
+        f.write_str(match self {
+            ScriptError::CarriageReturn => {
+                "the line has a carriage return; lines end in a line feed alone"
+            }
+            ScriptError::NoSuchCommand => "no such command",
+            ScriptError::MissingPiece => "a piece is missing",
+            ScriptError::ExtraPiece => "more pieces than the command takes",
+            ScriptError::MalformedNumber => "malformed number",
+            ScriptError::NumberTooLarge => "number too large for its type",
+            ScriptError::MalformedBytes => "malformed bytes",
+            ScriptError::RamTooLarge => "the RAM has at most 1048576 bytes",
+            ScriptError::NotInsideRam => "not inside the RAM",
+            ScriptError::FileUnreadable => "file cannot be read",
+            ScriptError::OutOfMemory => "not enough memory",
+        })
+    }
+}
+
+impl Error for ScriptError {}

@@ -1,66 +1,64 @@
 // A line cut into pieces at its spaces.
-ghost use Rattle.std.specs.Prelude.{◌≡◌, ◌<◌, ◌⊎◌, [], length, Err, MatchOption};
+ghost use Rattle.std.specs.Prelude.{◌≡◌, ◌≤◌, ◌⊎◌, length, Err};
+ghost use Rattle.std.specs.Iterator.{at_most};
+ghost use Rattle.std.specs.List.{prefix_len, position_or_len};
 ghost use Rattle.script.specs.declared.errors.ScriptError.TheVariants.{OutOfMemory};
 ghost use Rattle.script.specs.Fields.{lent, listed, needed, field_32, field_bytes, end_of};
-ghost use Rattle.script.specs.Pieces.{is_kind, run_of, first_piece, behind};
+ghost use Rattle.script.specs.Pieces.{NextPiece, is_space, first_piece, behind};
 
 use crate::bytes::read_bytes;
 use crate::errors::ScriptError;
-use crate::numbers::Number;
+use crate::numbers::read_number;
 use std::alloc::Global;
+use std::marker::Model;
 
-// What is left of a line.
-#[derive(Drop)]
+// The pieces that are left of a line. A clause sees the bytes that are left.
+#[derive(Debug, Drop)]
 pub(crate) struct Pieces<'a> {
     rest: &'a [u8],
 }
 
+impl<'a> Model for Pieces<'a> {
+    ghost use Rattle.std.specs.Prelude.{List, ℕ};
+
+    ghost Value = { List ℕ };
+
+    ghost view = { λ pieces. pieces.rest.now };
+}
+
 impl<'a> Pieces<'a> {
     pub(crate) fn new(line: &'a [u8]) -> Pieces<'a>
-        ensures { result.rest.now ≡ line.now }
+        ensures { result ≡ line.now }
     {
         Pieces { rest: line }
     }
 
-    // The next piece, which is never empty.
-    pub(crate) fn next(&mut self) -> Option<&'a [u8]>
-        ensures cases { MatchOption result (first_piece self.old.rest.now ≡ []) (λ p. (p.now ≡ first_piece self.old.rest.now) × (0 < length p.now)) }
-        ensures after { self.new.rest.now ≡ behind self.old.rest.now }
-    {
-        let (piece, rest) = cut(self.rest);
-        self.rest = rest;
-        if piece.is_empty() { None } else { Some(piece) }
-    }
-
     // The next piece, where a command needs one.
     pub(crate) fn required(&mut self) -> Result<&'a [u8], ScriptError>
-        ensures value { lent result ≡ needed (first_piece self.old.rest.now) }
-        ensures after { self.new.rest.now ≡ behind self.old.rest.now }
+        ensures value { lent result ≡ needed (first_piece self.old) }
+        ensures after { self.new ≡ behind self.old }
     {
-        match self.next() {
-            Some(piece) => Ok(piece),
-            None => Err(ScriptError::MissingPiece),
-        }
+        self.next().ok_or(ScriptError::MissingPiece)
     }
 
     pub(crate) fn next_u32(&mut self) -> Result<u32, ScriptError>
-        ensures value { result ≡ field_32 (first_piece self.old.rest.now) }
-        ensures after { self.new.rest.now ≡ behind self.old.rest.now }
+        ensures value { result ≡ field_32 (first_piece self.old) }
+        ensures after { self.new ≡ behind self.old }
     {
-        let number = Number::read(self.required()?)?;
-        number.to_u32()
+        let number = read_number(self.required()?)?;
+        u32::try_from(number).map_err(|_| ScriptError::NumberTooLarge)
     }
 
     pub(crate) fn next_bytes(&mut self, heap: Global) -> Result<Vec<u8>, ScriptError>
-        ensures value { (listed result ≡ field_bytes (first_piece self.old.rest.now)) ⊎ (result ≡ Err OutOfMemory) }
-        ensures after { self.new.rest.now ≡ behind self.old.rest.now }
+        ensures value { (listed result ≡ field_bytes (first_piece self.old)) ⊎ (result ≡ Err OutOfMemory) }
+        ensures after { self.new ≡ behind self.old }
     {
         read_bytes(heap, self.required()?)
     }
 
     // Nothing but spaces may be left.
     pub(crate) fn end(mut self) -> Result<(), ScriptError>
-        ensures { result ≡ end_of (first_piece self.entry.rest.now) }
+        ensures { result ≡ end_of (first_piece self.entry) }
     {
         match self.next() {
             Some(_) => Err(ScriptError::ExtraPiece),
@@ -69,30 +67,42 @@ impl<'a> Pieces<'a> {
     }
 }
 
+// No piece is empty.
+impl<'a> Iterator for Pieces<'a> {
+    type Item = &'a [u8];
+
+    ghost next_gives = { NextPiece };
+
+    ghost remaining = { λ rest. at_most (length rest) };
+
+    fn next(&mut self) -> Option<&'a [u8]> {
+        let (piece, rest) = cut(self.rest);
+        self.rest = rest;
+        if piece.is_empty() { None } else { Some(piece) }
+    }
+}
+
 // The first piece of a line, which is empty where only spaces are left, and what stands behind it.
 fn cut(line: &[u8]) -> (&[u8], &[u8])
     ensures piece { result.0.now ≡ first_piece line.now }
     ensures rest { result.1.now ≡ behind line.now }
 {
-    let (_, line) = line.split_at(run(line, true));
-    line.split_at(run(line, false))
+    let line = &line[space_count(line)..];
+    line.split_at(piece_length(line))
 }
 
-// How many bytes at the front are spaces, or are other bytes.
-fn run(line: &[u8], spaces: bool) -> usize
-    ensures { result ≡ run_of spaces line.now }
+// How many spaces stand at the front.
+fn space_count(line: &[u8]) -> usize
+    ensures value { result ≡ prefix_len is_space line.now }
+    ensures bound { result ≤ length line.now }
 {
-    for (i, byte) in line.iter().enumerate() {
-        if !is_kind(*byte, spaces) {
-            return i;
-        }
-    }
-    line.len()
+    line.iter().take_while(|byte| **byte == b' ').count()
 }
 
-// Whether a byte is a space, or is another byte.
-fn is_kind(byte: u8, spaces: bool) -> bool
-    ensures { result ≡ is_kind spaces byte }
+// How many bytes stand before the first space.
+fn piece_length(line: &[u8]) -> usize
+    ensures value { result ≡ position_or_len is_space line.now }
+    ensures bound { result ≤ length line.now }
 {
-    if spaces { byte == b' ' } else { byte != b' ' }
+    line.iter().take_while(|byte| **byte != b' ').count()
 }

@@ -2,12 +2,12 @@
 use crate::bytes::read_bytes;
 use crate::commands::{Command, parse};
 use crate::errors::ScriptError;
-use crate::numbers::Number;
+use crate::numbers::read_number;
 use std::alloc::Global;
 use std::test::Fail;
 
 fn number(piece: &[u8]) -> Result<u32, ScriptError> {
-    Number::read(piece)?.to_u32()
+    u32::try_from(read_number(piece)?).map_err(|_| ScriptError::NumberTooLarge)
 }
 
 #[test]

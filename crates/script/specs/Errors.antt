@@ -1,0 +1,18 @@
+-- The errors of a script in words.
+use Rattle.std.specs.Prelude.{ℕ, List, codes}
+use Rattle.script.specs.declared.errors.ScriptError.{ScriptError}
+use Rattle.script.specs.declared.errors.ScriptError.TheVariants.{CarriageReturn, NoSuchCommand, MissingPiece, ExtraPiece, MalformedNumber, NumberTooLarge, MalformedBytes, RamTooLarge, NotInsideRam, FileUnreadable, OutOfMemory}
+
+-- what is printed of an error
+abbrev pub message : ScriptError → List ℕ
+message CarriageReturn = codes "the line has a carriage return; lines end in a line feed alone"
+message NoSuchCommand = codes "no such command"
+message MissingPiece = codes "a piece is missing"
+message ExtraPiece = codes "more pieces than the command takes"
+message MalformedNumber = codes "malformed number"
+message NumberTooLarge = codes "number too large for its type"
+message MalformedBytes = codes "malformed bytes"
+message RamTooLarge = codes "the RAM has at most 1048576 bytes"
+message NotInsideRam = codes "not inside the RAM"
+message FileUnreadable = codes "file cannot be read"
+message OutOfMemory = codes "not enough memory"
