@@ -1,8 +1,8 @@
 -- What `hex::decode` answers, in this crate's words.
-use Rattle.std.proofs.Common.{◌≡◌, ℕ, ◌+◌, ◌*◌, ◌%◌, Bool, true, false, ◌&&◌, ltb, eqb, List, [], ◌∷◌, ◌<◌, ◌≤◌, ⊎_elim, inl, inr, length, Some, None, Ok, Err, Option, Result, refl, sym, ap, ◌∙◌, arith}
+use Rattle.std.proofs.Common.{◌≡◌, ℕ, ◌+◌, ◌*◌, ◌%◌, Bool, true, false, ◌&&◌, ltb, eqb, List, [], ◌∷◌, ◌<◌, inl, inr, length, Some, None, Ok, Err, Option, Result, refl, sym, arith}
 use Rattle.std.specs.Char.{digit_value}
 use Rattle.std.proofs.lemmas.Bool.Decides.{nat_tests}
-use Rattle.std.proofs.lemmas.Bool.{cases_eq, cases_lt, eq-eqb, ne_eqb, eqb-false}
+use Rattle.std.proofs.lemmas.Bool.{cases_eq, eq-eqb, ne_eqb, eqb-false}
 use Rattle.script.specs.declared.errors.ScriptError.{ScriptError}
 use Rattle.script.specs.declared.errors.ScriptError.TheVariants.{MalformedBytes}
 use Rattle.hex.specs.Hex.{decode_of, decode_pairs, hex_digit_value, digit_or_error, ◌>>=◌}
@@ -25,7 +25,7 @@ Decodes (Err e) digits spelled = digits ≡ false
 
 pair : (a b i high low : ℕ) (h l : Option ℕ) (rest : Result (List ℕ) FromHexError) (digits : Bool) (spelled : List ℕ) → IsDigit h high → IsDigit l low → Decodes rest digits spelled
     → Decodes ((digit_or_error a i h >>= (λ x. digit_or_error b (i + 1) l >>= (λ y. Ok (x * 16 + y)))) >>= (λ byte. rest >>= (λ bytes. Ok (byte ∷ bytes))))
-      (ltb high 16 && (ltb low 16 && digits)) ((16 * high + low) ∷ spelled)
+    (ltb high 16 && (ltb low 16 && digits)) ((16 * high + low) ∷ spelled)
 pair a b i high low (Some x) (Some y) (Ok bytes) digits spelled p q r = grind arith
 pair a b i high low (Some x) (Some y) (Err e) digits spelled p q r = grind arith
 pair a b i high low (Some x) None rest digits spelled p q r = grind arith

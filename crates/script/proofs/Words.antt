@@ -1,16 +1,13 @@
 -- Command words, and what a line with none of them means.
-use Rattle.std.proofs.Common.{◌≡◌, ℕ, ◌<◌, Bool, true, false, not, ◌&&◌, eqb, ltb, ◌⊎◌, List, [], ◌∷◌, length, Some, Ok, Err, codes, IsUtf8, IsAscii, sym, refl, ap, ◌∙◌, subst, inl, inr, ⊎_elim, arith}
-use Rattle.std.proofs.lemmas.List.Elements.{contains_decides}
+use Rattle.std.proofs.Common.{◌≡◌, ℕ, ◌<◌, Bool, true, false, ◌&&◌, ltb, List, [], ◌∷◌, length, Some, Ok, Err, codes, IsUtf8, IsAscii, sym, refl, ap, ◌∙◌, subst, arith}
 use Rattle.std.proofs.lemmas.Slice.Eq.{bytes_eq-Decides}
-use Rattle.std.proofs.lemmas.Bool.{false≢true, eqb-true, and_parts, ltb-true}
-use Rattle.std.proofs.lemmas.Bool.Decides.{same_from_decides, Decides-by_or, Decides-eqb}
-use Rattle.std.specs.List.{IsAnyAnswer}
+use Rattle.std.proofs.lemmas.Bool.{false≢true, and_parts, ltb-true}
+use Rattle.std.proofs.lemmas.Bool.Decides.{same_from_decides}
 use Rattle.std.specs.Str.{bytes_eq}
 use Rattle.std.proofs.lemmas.Str.Ascii.{IsAscii-nil, IsAscii-cons}
 use Rattle.std.proofs.lemmas.Str.{IsUtf8-from_ascii}
-use Rattle.script.specs.declared.errors.ScriptError.{ScriptError}
-use Rattle.script.specs.declared.errors.ScriptError.TheVariants.{NoSuchCommand, OutOfMemory}
-use Rattle.script.specs.Commands.{IsPoke, command_of, remark, has, word_of, pieces_of, line_of}
+use Rattle.script.specs.declared.errors.ScriptError.TheVariants.{NoSuchCommand}
+use Rattle.script.specs.Commands.{command_of, remark, has, word_of, pieces_of, line_of}
 use Rattle.script.specs.Fields.{then}
 use Rattle.script.specs.Pieces.{first_piece, behind}
 

@@ -1,5 +1,8 @@
--- The errors of a script in words.
-use Rattle.std.specs.Prelude.{ℕ, List, codes}
+-- The errors of a script.
+use Rattle.std.specs.Prelude.{◌≡◌, ◌≢◌, ℕ, ◌⊎◌, List, codes}
+use Rattle.std.specs.IoError.{error_kind}
+use Rattle.std.specs.declared.io.Error.{Error}
+use Rattle.std.specs.declared.io.ErrorKind.{ErrorKind}
 use Rattle.script.specs.declared.errors.ScriptError.{ScriptError}
 use Rattle.script.specs.declared.errors.ScriptError.TheVariants.{CarriageReturn, NoSuchCommand, MissingPiece, ExtraPiece, MalformedNumber, NumberTooLarge, MalformedBytes, RamTooLarge, NotInsideRam, FileUnreadable, OutOfMemory}
 
@@ -16,3 +19,8 @@ message RamTooLarge = codes "the RAM has at most 1048576 bytes"
 message NotInsideRam = codes "not inside the RAM"
 message FileUnreadable = codes "file cannot be read"
 message OutOfMemory = codes "not enough memory"
+
+-- the error of a script that stands for one of a file: want of memory, or that the file cannot be read
+abbrev pub IsFileError : Error → ScriptError → Type 0
+IsFileError cause error =
+    ((error_kind cause ≡ ErrorKind.OutOfMemory) × (error ≡ OutOfMemory)) ⊎ ((error_kind cause ≢ ErrorKind.OutOfMemory) × (error ≡ FileUnreadable))

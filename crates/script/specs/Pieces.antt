@@ -1,5 +1,5 @@
 -- A line cut at its spaces.
-use Rattle.std.specs.Prelude.{◌≡◌, ℕ, ◌<◌, Bool, not, List, [], length, drop, Option, MatchOption, ◌==◌}
+use Rattle.std.specs.Prelude.{◌≡◌, ℕ, ◌<◌, Bool, List, [], length, drop, Option, MatchOption, ◌==◌}
 use Rattle.std.specs.List.{before_first, position_or_len, prefix_len}
 use Rattle.std.specs.Borrow.{Bor}
 

@@ -7,7 +7,7 @@ use crate::pieces::Pieces;
 use std::alloc::Global;
 
 // A command with its fields.
-#[derive(Debug, Drop)]
+#[derive(Debug, PartialEq, Eq, Drop)]
 pub enum Command<'a> {
     Card { base: u32, path: &'a [u8] },
     Ram { base: u32, size: u32 },

@@ -1,9 +1,11 @@
 // Why a line of a script is not carried out.
 ghost use Rattle.std.specs.Prelude.{◌≡◌, Some};
-ghost use Rattle.script.specs.Errors.{message};
+ghost use Rattle.script.specs.declared.errors.ScriptError.TheVariants.{OutOfMemory};
+ghost use Rattle.script.specs.Errors.{message, IsFileError};
 
+use std::alloc::AllocError;
 use std::error::Error;
-use std::fmt;
+use std::{fmt, io};
 
 #[derive(Clone, Copy, PartialEq, Eq, Hash, Debug)]
 pub enum ScriptError {
@@ -55,3 +57,23 @@ impl fmt::Display for ScriptError {
 }
 
 impl Error for ScriptError {}
+
+impl From<AllocError> for ScriptError {
+    ghost from_gives = { λ _ error. error ≡ OutOfMemory };
+
+    fn from(_error: AllocError) -> ScriptError {
+        ScriptError::OutOfMemory
+    }
+}
+
+// A script reads no file but those of its cards.
+impl From<io::Error> for ScriptError {
+    ghost from_gives = { IsFileError };
+
+    fn from(error: io::Error) -> ScriptError {
+        match error.kind() {
+            io::ErrorKind::OutOfMemory => ScriptError::OutOfMemory,
+            _ => ScriptError::FileUnreadable,
+        }
+    }
+}
