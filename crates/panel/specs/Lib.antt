@@ -1,3 +1,4 @@
 pub mod Lines
+pub mod RamBytes
 pub mod Rams
 pub mod Panels

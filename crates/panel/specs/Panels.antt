@@ -1,31 +1,29 @@
 -- What a command does to the panel.
 use Rattle.std.specs.Prelude.{◌≡◌, ℕ, false, List, length, Ok, Err, vec_items, Result}
-use Rattle.memory.specs.declared.refusal.Refusal.{Refusal}
 use Rattle.memory.specs.Cards.{block_count, sound_count, card}
 use Rattle.memory.specs.Halfwords.{even}
 use Rattle.memory.specs.Memories.{flat, split}
 use Rattle.memory.specs.Outcomes.{Outcome, answer}
-use Rattle.memory.specs.Refusals.{number}
 use Rattle.script.specs.declared.errors.ScriptError.{ScriptError}
 use Rattle.script.specs.declared.errors.ScriptError.TheVariants.{NotInsideRam}
 use Rattle.script.specs.declared.commands.Command.{Command}
 use Rattle.script.specs.declared.commands.Command.TheVariants.{Card, Ram, Boundary, Poke, Peek}
 use Rattle.panel.specs.declared.panel.Answer.{Answer}
-use Rattle.panel.specs.declared.panel.Answer.TheVariants.{CardShown, RamMade, BoundarySet, Poked as BytesPoked, Halfword, Refused}
+use Rattle.panel.specs.declared.panel.Answer.TheVariants.{CardShown, RamMade, BoundarySet, Poked as BytesPoked, Peeked}
 use Rattle.panel.specs.declared.panel.Panel.{Panel}
 use Rattle.panel.specs.Rams.{Zeroed, NotMade, has_room, Poked}
 
 -- the file of the panel's card
 abbrev pub card_file : Panel → List ℕ
-card_file panel = vec_items panel.card.file
+card_file panel = panel.card.file
 
 -- what the panel's memory shows: the card below the boundary, the RAM from there on
 abbrev pub shown : Panel → ℕ → Outcome
-shown panel = split (even panel.boundary) (card panel.card.base (card_file panel)) (flat (even panel.ram.base) (vec_items panel.ram.bytes))
+shown panel = split (even panel.boundary) (card panel.card.base (card_file panel)) (flat (even panel.ram.base) panel.ram.bytes)
 
 -- nothing but the card has changed, and it shows its file from the base on
 pub record OnlyCard (base : ℕ) (before after : Panel) : Type 0 where
-  pub card : card after.card.base (card_file after) ≡ card (even base) (card_file after)
+  pub card : after.card.base ≡ even base
   pub ram : after.ram ≡ before.ram
   pub boundary : after.boundary ≡ before.boundary
 
@@ -59,15 +57,10 @@ abbrev pub Pokes : ℕ → List ℕ → Panel → Result Answer ScriptError → 
 Pokes address new before (Ok a) after = (a ≡ BytesPoked (length new)) × Poked before.ram address new after.ram × OnlyRam before after
 Pokes address new before (Err e) after = (e ≡ NotInsideRam) × (has_room before.ram address (length new) ≡ false) × (after ≡ before)
 
--- a peek answers the halfword, or the number of the refusal
-abbrev pub peeked : Result ℕ Refusal → Answer
-peeked (Ok h) = Halfword h
-peeked (Err e) = Refused (number e)
-
 -- a command: the panel before, the answer or the error, the panel after
 abbrev pub Does : Command → Panel → Result Answer ScriptError → Panel → Type 0
 Does (Card base path) before r after = ShowsCard base before r after
 Does (Ram base size) before r after = MakesRam base size before r after
 Does (Boundary address) before r after = SetsBoundary address before r after
 Does (Poke address bytes) before r after = Pokes address (vec_items bytes) before r after
-Does (Peek address) before r after = (r ≡ Ok (peeked (answer (shown before) address))) × (after ≡ before)
+Does (Peek address) before r after = (r ≡ Ok (Peeked (answer (shown before) address))) × (after ≡ before)

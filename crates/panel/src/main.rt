@@ -37,7 +37,7 @@ fn start(rt: &HostRuntime) -> anyhow::Result<()> {
 }
 
 fn is_help(word: &str) -> bool {
-    word == "--help" || word == "-h"
+    matches!(word, "--help" | "-h")
 }
 
 // Runs the script on standard input. Where there is no memory for a buffer, it is read without one.
@@ -58,13 +58,11 @@ fn obey_lines(rt: &HostRuntime, input: &mut impl BufRead) -> io::Result<()> {
         match input.read_until(b'\n', &mut line) {
             Ok(0) => break,
             Ok(_) => print::outcome(rt, number, obey(rt, &mut panel, line.as_slice()))?,
-            Err(error) => {
-                if error.kind() != io::ErrorKind::OutOfMemory {
-                    return Err(error);
-                }
-                print::outcome(rt, number, Err(ScriptError::OutOfMemory))?;
-                lines::skip_line(input)?;
+            Err(error) if error.kind() == io::ErrorKind::OutOfMemory => {
+                print::outcome(rt, number, Err(error.into()))?;
+                input.skip_until(b'\n')?;
             }
+            Err(error) => return Err(error),
         }
     }
     Ok(())
@@ -74,8 +72,9 @@ fn obey_lines(rt: &HostRuntime, input: &mut impl BufRead) -> io::Result<()> {
 fn obey(rt: &HostRuntime, panel: &mut Panel, line: &[u8]) -> Result<Option<Answer>, ScriptError>
     ensures { OnErr result (panel.new ≡ panel.old) }
 {
-    match script::parse(rt.alloc(), lines::without_line_feed(line))? {
-        Some(command) => Ok(Some(panel.carry_out(rt, command)?)),
-        None => Ok(None),
-    }
+    let Some(command) = script::parse(rt.alloc(), lines::without_line_feed(line))? else {
+        return Ok(None);
+    };
+    let answer = panel.carry_out(rt, command)?;
+    Ok(Some(answer))
 }

@@ -1,13 +1,15 @@
 // The panel: a card below a boundary, RAM from the boundary on.
 ghost use Rattle.std.specs.Prelude.{◌≡◌, [], Ok, OnErr};
 ghost use Rattle.memory.specs.Outcomes.{answer};
-ghost use Rattle.panel.specs.Panels.{ShowsCard, MakesRam, SetsBoundary, Pokes, Does, card_file, shown, peeked};
+ghost use Rattle.panel.specs.Panels.{ShowsCard, MakesRam, SetsBoundary, Pokes, Does, card_file, shown};
+ghost use Rattle.panel.specs.Rams.{ram_bytes};
 
 use crate::files::read_file;
 use crate::ram::Ram;
 use memory::{Card, Memory, Refusal, Split};
 use script::{Command, ScriptError};
 use std::alloc::Global;
+use std::fmt;
 
 #[derive(Drop)]
 pub(crate) struct Panel {
@@ -17,26 +19,23 @@ pub(crate) struct Panel {
 }
 
 // What a command came to.
-#[derive(Clone, Copy)]
+#[derive(Clone, Copy, Debug, PartialEq, Eq)]
 pub(crate) enum Answer {
     CardShown { blocks: usize, sound: usize },
     RamMade { size: u32 },
     BoundarySet { address: u32 },
     Poked { count: usize },
-    Halfword(u16),
-    Refused(u8),
+    Peeked(Result<u16, Refusal>),
 }
 
 impl Panel {
     // A card with no blocks, a RAM of no bytes, the boundary at 0.
     pub(crate) fn new(heap: Global) -> Panel
-        ensures { (result.boundary ≡ 0) × (card_file result ≡ []) × (result.ram.base ≡ 0) × (result.ram.bytes.items ≡ []) }
+        ensures { (result.boundary ≡ 0) × (card_file result ≡ []) × (result.ram ≡ ram_bytes 0 []) }
     {
-        let card = Card::new(0, Vec::new(heap));
-        let ram = Ram::empty(heap);
         Panel {
-            card,
-            ram,
+            card: Card::new(0, Vec::new(heap)),
+            ram: Ram::new(0, Vec::new(heap)),
             boundary: 0,
         }
     }
@@ -55,7 +54,7 @@ impl Panel {
             Command::Ram { base, size } => self.make_ram(rt.alloc(), base, size),
             Command::Boundary { address } => Ok(self.set_boundary(address)),
             Command::Poke { address, bytes } => self.poke(address, bytes.as_slice()),
-            Command::Peek { address } => Ok(self.peek(address)),
+            Command::Peek { address } => Ok(Answer::Peeked(self.read(address))),
         }
     }
 
@@ -95,16 +94,22 @@ impl Panel {
     fn read(&self, address: u32) -> Result<u16, Refusal>
         ensures { result ≡ answer (shown self.now) address }
     {
-        let memory = Split::new(self.boundary, &self.card, self.ram.memory());
-        memory.read(address)
+        Split::new(self.boundary, &self.card, &self.ram).read(address)
     }
+}
 
-    fn peek(&self, address: u32) -> Answer
-        ensures { result ≡ peeked (answer (shown self.now) address) }
-    {
-        match self.read(address) {
-            Ok(halfword) => Answer::Halfword(halfword),
-            Err(refusal) => Answer::Refused(refusal.number()),
+impl fmt::Display for Answer {
+    fn fmt<W: fmt::Write>(&self, f: &mut fmt::Formatter<W>) -> fmt::Result {
+        match self {
+            Answer::CardShown { blocks, sound } => write!(
+                f,
+                "card: {blocks} blocks, {sound} sound"
+            ),
+            Answer::RamMade { size } => write!(f, "ram: {size} bytes"),
+            Answer::BoundarySet { address } => write!(f, "boundary: 0x{address:08X}"),
+            Answer::Poked { count } => write!(f, "poke: {count} bytes"),
+            Answer::Peeked(Ok(halfword)) => write!(f, "halfword 0x{halfword:04X}"),
+            Answer::Peeked(Err(refusal)) => write!(f, "refused {refusal}"),
         }
     }
 }

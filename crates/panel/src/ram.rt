@@ -1,12 +1,13 @@
 // The panel's RAM.
-ghost use Rattle.std.specs.Prelude.{◌≡◌, [], MatchResult};
+ghost use Rattle.std.specs.Prelude.{◌≡◌, MatchResult};
 ghost use Rattle.memory.specs.Halfwords.{even};
 ghost use Rattle.memory.specs.Memories.{flat};
-ghost use Rattle.panel.specs.Rams.{Zeroed, NotMade, inside, PokeOf};
+ghost use Rattle.panel.specs.Rams.{ram_bytes, Zeroed, NotMade, has_room, PokeOf};
 
-use memory::Flat;
+use memory::{Flat, Memory, Refusal};
 use script::ScriptError;
 use std::alloc::Global;
+use std::marker::Model;
 
 // The most bytes that a RAM may have.
 const LIMIT: u32 = 1_048_576;
@@ -14,20 +15,30 @@ const LIMIT: u32 = 1_048_576;
 // How many addresses there are.
 const ADDRESSES: u64 = 0x1_0000_0000;
 
-// Bytes from an even base address on.
+// Bytes from an even base address on. Contracts see the base and the bytes.
 #[derive(Drop)]
 pub(crate) struct Ram {
     base: u32,
     bytes: Vec<u8>,
 }
 
+impl Model for Ram {
+    ghost use Rattle.panel.specs.RamBytes.{RamBytes};
+
+    ghost Value = { RamBytes };
+
+    ghost view = { λ ram. record { base = ram.base; bytes = ram.bytes.items } };
+}
+
 impl Ram {
-    // A RAM of no bytes.
-    pub(crate) fn empty(heap: Global) -> Ram
-        ensures { (result.base ≡ 0) × (result.bytes.items ≡ []) }
+    // These bytes; an odd base is rounded down.
+    pub(crate) fn new(base: u32, bytes: Vec<u8>) -> Ram
+        ensures { result ≡ ram_bytes (even base) bytes.items }
     {
-        let bytes = Vec::new(heap);
-        Ram { base: 0, bytes }
+        Ram {
+            base: base - base % 2,
+            bytes,
+        }
     }
 
     // Zero bytes; an odd base is rounded down.
@@ -37,41 +48,37 @@ impl Ram {
         if size > LIMIT {
             return Err(ScriptError::RamTooLarge);
         }
-        let Ok(bytes) = vec![in heap; 0; size as usize] else {
-            return Err(ScriptError::OutOfMemory);
-        };
-        let base = base - base % 2;
-        Ok(Ram { base, bytes })
-    }
-
-    // The RAM as a memory.
-    pub(crate) fn memory(&self) -> Flat<'_>
-        ensures { flat result.base result.bytes.now ≡ flat (even self.now.base) self.now.bytes.items }
-    {
-        Flat::new(self.base, self.bytes.as_slice())
+        Ok(Ram::new(base, vec![in heap; 0; size as usize]?))
     }
 
     // Writes bytes from an address on, or changes nothing where not all of them lie inside.
     pub(crate) fn poke(&mut self, address: u32, bytes: &[u8]) -> Result<(), ScriptError>
         ensures { PokeOf self.old address bytes.now result self.new }
     {
-        if !is_inside(self.base, self.bytes.len(), address, bytes.len()) {
+        if !self.has_room(address, bytes.len()) {
             return Err(ScriptError::NotInsideRam);
         }
         let start = (address - self.base) as usize;
-        for (i, byte) in bytes.iter().enumerate() {
-            self.bytes[start + i] = *byte;
-        }
+        self.bytes[start..start + bytes.len()].copy_from_slice(bytes);
         Ok(())
+    }
+
+    // Whether all of some bytes from an address on lie inside.
+    fn has_room(&self, address: u32, count: usize) -> bool
+        ensures { result ≡ has_room self.now address count }
+    {
+        let size = self.bytes.len();
+        if address < self.base || count > size {
+            return false;
+        }
+        (address - self.base) as usize <= size - count && count as u64 <= ADDRESSES - address as u64
     }
 }
 
-// Whether a RAM has all of some bytes from an address on.
-fn is_inside(base: u32, size: usize, address: u32, count: usize) -> bool
-    ensures { result ≡ inside base size address count }
-{
-    if address < base || count > size {
-        return false;
+impl Memory for Ram {
+    ghost outcome = { λ ram. flat (even ram.base) ram.bytes };
+
+    fn read(&self, address: u32) -> Result<u16, Refusal> {
+        Flat::new(self.base, self.bytes.as_slice()).read(address)
     }
-    (address - base) as usize <= size - count && count as u64 <= ADDRESSES - address as u64
 }
