@@ -1,5 +1,5 @@
 -- Bytes as a script writes them: two hexadecimal digits each.
-use Rattle.std.specs.Prelude.{ℕ, ◌+◌, ◌*◌, ◌%◌, Bool, cond, ◌&&◌, List, [], ◌∷◌, length, Some, None, Ok, Err, Option, Result, ◌==◌, nat_lt}
+use Rattle.std.specs.Prelude.{ℕ, ◌+◌, ◌*◌, ◌%◌, Bool, cond, ◌&&◌, List, [], ◌∷◌, length, Ok, Err, Result, ◌==◌, nat_lt}
 use Rattle.std.specs.Char.{digit_value}
 use Rattle.script.specs.declared.errors.ScriptError.{ScriptError}
 use Rattle.script.specs.declared.errors.ScriptError.TheVariants.{MalformedBytes}
@@ -8,9 +8,6 @@ use Rattle.script.specs.Numbers.{all_digits}
 -- the byte that two digits spell, the first counting sixteen
 abbrev pub pair_value : ℕ → ℕ → ℕ
 pair_value high low = 16 * digit_value high + digit_value low
-
-abbrev pub pair_of : ℕ → ℕ → Option ℕ
-pair_of high low = cond (nat_lt (digit_value high) 16 && nat_lt (digit_value low) 16) (Some (pair_value high low)) None
 
 -- at least one pair of digits, and nothing but whole pairs
 abbrev pub are_pairs : List ℕ → Bool

@@ -22,10 +22,11 @@ size_of radix bs = if nat_lt 0 (length bs) && all_digits radix bs then Some (min
 abbrev pub unsigned_size : List ℕ → Option ℕ
 unsigned_size bs = if slice_index bs 0 == 48 && slice_index bs 1 == 120 then size_of 16 (drop 2 bs) else size_of 10 bs
 
--- a size, and a size behind a minus sign, as numbers
+-- a size as a number
 abbrev pub signed : Option ℕ → Option ℤ
 signed size = option_map (λ n. pos n) size
 
+-- a size behind a minus sign as a number
 abbrev pub negated : Option ℕ → Option ℤ
 negated size = option_map (λ n. neg_ℤ (pos n)) size
 

@@ -3,6 +3,7 @@ use Rattle.std.specs.Prelude.{◌≡◌, ℕ, ◌<◌, Bool, List, [], length, d
 use Rattle.std.specs.List.{before_first, position_or_len, prefix_len}
 use Rattle.std.specs.Borrow.{Bor}
 
+-- a byte is a space
 abbrev pub is_space : ℕ → Bool
 is_space b = b == 32
 

@@ -1,6 +1,7 @@
 // Numbers as a script writes them: 12, -256, 0x1F.
 ghost use Rattle.std.specs.Prelude.{◌≡◌, ◌≤◌};
-ghost use Rattle.script.specs.Numbers.{size_of, number_of, signed};
+ghost use Rattle.script.specs.Fields.{then};
+ghost use Rattle.script.specs.Numbers.{size_of, signed, number_of, unsigned_32};
 
 use crate::errors::ScriptError;
 
@@ -8,7 +9,7 @@ use crate::errors::ScriptError;
 const LIMIT: u64 = 0x1_0000_0000;
 
 // The number that a whole piece spells.
-pub(crate) fn read_number(piece: &[u8]) -> Result<i64, ScriptError>
+fn read_number(piece: &[u8]) -> Result<i64, ScriptError>
     ensures { result ≡ number_of piece.now }
 {
     let number = match piece {
@@ -17,6 +18,13 @@ pub(crate) fn read_number(piece: &[u8]) -> Result<i64, ScriptError>
         _ => size(piece, 10),
     };
     number.ok_or(ScriptError::MalformedNumber)
+}
+
+// That number, held to 32 bits without sign.
+pub(crate) fn read_u32(piece: &[u8]) -> Result<u32, ScriptError>
+    ensures { result ≡ then (number_of piece.now) unsigned_32 }
+{
+    u32::try_from(read_number(piece)?).map_err(|_| ScriptError::NumberTooLarge)
 }
 
 // What digits spell, up to the limit.

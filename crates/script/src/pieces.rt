@@ -8,7 +8,7 @@ ghost use Rattle.script.specs.Pieces.{NextPiece, is_space, first_piece, behind};
 
 use crate::bytes::read_bytes;
 use crate::errors::ScriptError;
-use crate::numbers::read_number;
+use crate::numbers::read_u32;
 use std::alloc::Global;
 use std::marker::Model;
 
@@ -45,8 +45,7 @@ impl<'a> Pieces<'a> {
         ensures value { result ≡ field_32 (first_piece self.old) }
         ensures after { self.new ≡ behind self.old }
     {
-        let number = read_number(self.required()?)?;
-        u32::try_from(number).map_err(|_| ScriptError::NumberTooLarge)
+        read_u32(self.required()?)
     }
 
     pub(crate) fn next_bytes(&mut self, heap: Global) -> Result<Vec<u8>, ScriptError>
