@@ -7,7 +7,7 @@ use Rattle.std.proofs.lemmas.Str.{IsUtf8-from_is_utf8}
 use lib.Utf8.{encode}
 use Rattle.std.specs.Str.{bytes_eq, is_utf8, chars}
 use Rattle.script.specs.declared.errors.ScriptError.TheVariants.{NoSuchCommand}
-use Rattle.script.specs.Commands.{command_of, remark, has, word_of, pieces_of, line_of}
+use Rattle.script.specs.Commands.{command_of, remark, has, word_of, line_of}
 use Rattle.script.specs.Fields.{then}
 use Rattle.script.specs.Pieces.{first_piece, behind}
 

@@ -2,7 +2,9 @@
 ghost use Rattle.script.specs.Commands.{Means, MeansAtEnd, LineMeans, IsPoke, line_of, command_of};
 ghost use Rattle.script.specs.Pieces.{first_piece};
 
+use crate::bytes::read_bytes;
 use crate::errors::ScriptError;
+use crate::numbers::read_u32;
 use crate::pieces::Pieces;
 use std::alloc::Global;
 
@@ -61,22 +63,22 @@ fn read_fields<'a>(
 {
     match word {
         "card" => Ok(Command::Card {
-            base: pieces.next_u32()?,
+            base: read_u32(pieces.required()?)?,
             path: pieces.required()?,
         }),
         "ram" => Ok(Command::Ram {
-            base: pieces.next_u32()?,
-            size: pieces.next_u32()?,
+            base: read_u32(pieces.required()?)?,
+            size: read_u32(pieces.required()?)?,
         }),
         "boundary" => Ok(Command::Boundary {
-            address: pieces.next_u32()?,
+            address: read_u32(pieces.required()?)?,
         }),
         "poke" => Ok(Command::Poke {
-            address: pieces.next_u32()?,
-            bytes: pieces.next_bytes(heap)?,
+            address: read_u32(pieces.required()?)?,
+            bytes: read_bytes(heap, pieces.required()?)?,
         }),
         "peek" => Ok(Command::Peek {
-            address: pieces.next_u32()?,
+            address: read_u32(pieces.required()?)?,
         }),
         _ => Err(ScriptError::NoSuchCommand),
     }

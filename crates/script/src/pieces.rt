@@ -1,15 +1,11 @@
 // A line cut into pieces at its spaces.
-ghost use Rattle.std.specs.Prelude.{◌≡◌, ◌≤◌, ◌⊎◌, length, Err};
+ghost use Rattle.std.specs.Prelude.{◌≡◌, ◌≤◌, length};
 ghost use Rattle.std.specs.Iterator.{at_most};
 ghost use Rattle.std.specs.List.{prefix_len, position_or_len};
-ghost use Rattle.script.specs.declared.errors.ScriptError.TheVariants.{OutOfMemory};
-ghost use Rattle.script.specs.Fields.{lent, listed, needed, field_32, field_bytes, end_of};
+ghost use Rattle.script.specs.Fields.{lent, needed, end_of};
 ghost use Rattle.script.specs.Pieces.{NextPiece, is_space, first_piece, behind};
 
-use crate::bytes::read_bytes;
 use crate::errors::ScriptError;
-use crate::numbers::read_u32;
-use std::alloc::Global;
 use std::marker::Model;
 
 // The pieces that are left of a line. A clause sees the bytes that are left.
@@ -39,20 +35,6 @@ impl<'a> Pieces<'a> {
         ensures after { self.new ≡ behind self.old }
     {
         self.next().ok_or(ScriptError::MissingPiece)
-    }
-
-    pub(crate) fn next_u32(&mut self) -> Result<u32, ScriptError>
-        ensures value { result ≡ field_32 (first_piece self.old) }
-        ensures after { self.new ≡ behind self.old }
-    {
-        read_u32(self.required()?)
-    }
-
-    pub(crate) fn next_bytes(&mut self, heap: Global) -> Result<Vec<u8>, ScriptError>
-        ensures value { (listed result ≡ field_bytes (first_piece self.old)) ⊎ (result ≡ Err OutOfMemory) }
-        ensures after { self.new ≡ behind self.old }
-    {
-        read_bytes(heap, self.required()?)
     }
 
     // Nothing but spaces may be left.
