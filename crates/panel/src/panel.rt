@@ -31,7 +31,9 @@ pub(crate) enum Answer {
 impl Panel {
     // A card with no blocks, a RAM of no bytes, the boundary at 0.
     pub(crate) fn new(heap: Global) -> Panel
-        ensures { (result.boundary ≡ 0) × (card_file result ≡ []) × (result.ram ≡ ram_bytes 0 []) }
+        ensures card { card_file result ≡ [] }
+        ensures ram { result.ram ≡ ram_bytes 0 [] }
+        ensures boundary { result.boundary ≡ 0 }
     {
         Panel {
             card: Card::new(0, Vec::new(heap)),

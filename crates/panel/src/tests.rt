@@ -5,9 +5,7 @@ use std::test::Fail;
 
 #[test]
 fn pokes_stay_inside(rt: HostRuntime) -> Result<(), Fail> {
-    let Ok(mut ram) = Ram::zeroed(rt.alloc(), 0xFFFF_FFFF, 4) else {
-        return Err(Fail::new("the RAM was not made"));
-    };
+    let mut ram = Ram::zeroed(rt.alloc(), 0xFFFF_FFFF, 4)?;
     assert!(rt; ram.poke(0xFFFF_FFFE, b"ab").is_ok());
     assert!(rt; ram.poke(0xFFFF_FFFF, b"a").is_ok());
     assert!(rt; ram.poke(0xFFFF_FFFE, b"abc").is_err());
