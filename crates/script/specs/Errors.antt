@@ -3,6 +3,8 @@ use Rattle.std.specs.Prelude.{◌≡◌, ◌≢◌, ℕ, ◌⊎◌, List, codes}
 use Rattle.std.specs.IoError.{error_kind}
 use Rattle.std.specs.declared.io.Error.{Error}
 use Rattle.std.specs.declared.io.ErrorKind.{ErrorKind}
+use Rattle.hex.specs.declared.error.FromHexError.{FromHexError}
+use Rattle.hex.specs.declared.error.FromHexError.TheVariants.{InvalidHexCharacter, OddLength, InvalidStringLength, OutOfMemory as NoMemory}
 use Rattle.script.specs.declared.errors.ScriptError.{ScriptError}
 use Rattle.script.specs.declared.errors.ScriptError.TheVariants.{CarriageReturn, NoSuchCommand, MissingPiece, ExtraPiece, MalformedNumber, NumberTooLarge, MalformedBytes, RamTooLarge, NotInsideRam, FileUnreadable, OutOfMemory}
 
@@ -24,3 +26,10 @@ message OutOfMemory = codes "not enough memory"
 abbrev pub IsFileError : Error → ScriptError → Type 0
 IsFileError cause error =
     ((error_kind cause ≡ ErrorKind.OutOfMemory) × (error ≡ OutOfMemory)) ⊎ ((error_kind cause ≢ ErrorKind.OutOfMemory) × (error ≡ FileUnreadable))
+
+-- the error of a script that stands for one of its bytes
+abbrev pub bytes_error : FromHexError → ScriptError
+bytes_error (InvalidHexCharacter c index) = MalformedBytes
+bytes_error OddLength = MalformedBytes
+bytes_error InvalidStringLength = MalformedBytes
+bytes_error NoMemory = OutOfMemory

@@ -5,7 +5,6 @@ ghost use Rattle.script.specs.Bytes.{bytes_of};
 ghost use Rattle.script.specs.Fields.{listed};
 
 use crate::errors::ScriptError;
-use hex::FromHexError;
 use std::alloc::Global;
 
 // The bytes that a whole piece spells.
@@ -15,9 +14,5 @@ pub(crate) fn read_bytes(heap: Global, piece: &[u8]) -> Result<Vec<u8>, ScriptEr
     if piece.is_empty() {
         return Err(ScriptError::MalformedBytes);
     }
-    match hex::decode(heap, piece) {
-        Ok(bytes) => Ok(bytes),
-        Err(FromHexError::OutOfMemory) => Err(ScriptError::OutOfMemory),
-        Err(_) => Err(ScriptError::MalformedBytes),
-    }
+    Ok(hex::decode(heap, piece)?)
 }

@@ -1,8 +1,9 @@
 // Why a line of a script is not carried out.
 ghost use Rattle.std.specs.Prelude.{◌≡◌, Some};
 ghost use Rattle.script.specs.declared.errors.ScriptError.TheVariants.{OutOfMemory};
-ghost use Rattle.script.specs.Errors.{message, IsFileError};
+ghost use Rattle.script.specs.Errors.{message, bytes_error, IsFileError};
 
+use hex::FromHexError;
 use std::alloc::AllocError;
 use std::error::Error;
 use std::{fmt, io};
@@ -63,6 +64,18 @@ impl From<AllocError> for ScriptError {
 
     fn from(_error: AllocError) -> ScriptError {
         ScriptError::OutOfMemory
+    }
+}
+
+// Bytes that are not spelled by pairs of digits.
+impl From<FromHexError> for ScriptError {
+    ghost from_gives = { λ cause error. error ≡ bytes_error cause };
+
+    fn from(error: FromHexError) -> ScriptError {
+        match error {
+            FromHexError::OutOfMemory => ScriptError::OutOfMemory,
+            _ => ScriptError::MalformedBytes,
+        }
     }
 }
 
