@@ -20,9 +20,8 @@ pub(crate) fn bytes(heap: Global) -> Result<Vec<u8>, AllocError> {
 // The block of these data, with as many zeros as are missing.
 fn block(number: u32, part: &[u8]) -> [u8; 512] {
     let mut payload = [0u8; 504];
-    for (to, from) in payload.iter_mut().zip(part) {
-        *to = *from;
-    }
+    let n = part.len().min(504);
+    payload[..n].copy_from_slice(&part[..n]);
     seal(number, &payload)
 }
 

@@ -77,9 +77,7 @@ impl Card {
         ensures { result ≡ even_answer (block_outcome self.now.file k j) }
     {
         let blocks = blocks_of(self.file.as_slice());
-        let Some(block) = blocks.get(k) else {
-            return Err(Refusal::Absent);
-        };
+        let block = blocks.get(k).ok_or(Refusal::Absent)?;
         match self.states[k] {
             BlockState::Unsound => Err(Refusal::Unsound),
             BlockState::Sound => Ok(halfword_at(block, j)),

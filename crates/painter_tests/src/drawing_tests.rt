@@ -1,8 +1,9 @@
 // Spans on a line: clips, refusals, and drawings that paint alike.
+use crate::shapes::blit;
 use memory::{Flat, Refusal};
 use painter::{Ablit, Blit, Clip, Drawing, Fill, Painter, SpanRefusal, Transform};
 use std::test::Fail;
-use surface::{Fault, Format, Palette, Reading, Source};
+use surface::{Fault, Palette, Reading, Source};
 
 const PINK: u16 = 0x7C1F;
 
@@ -31,17 +32,6 @@ fn clips_have_both_ends(rt: HostRuntime) {
     assert_eq!(rt; fill_clip(511, 1023), (1, Some(511)));
     assert_eq!(rt; fill_clip(512, 1023), (0, None));
     assert_eq!(rt; fill_clip(65535, 65535), (0, None));
-}
-
-fn blit(x0: u16, image: u32) -> Blit {
-    Blit {
-        size: 0,
-        poff: 0,
-        y0: 0,
-        x0,
-        image,
-        format: Format::P4,
-    }
 }
 
 // Draws on a whole line, line 0, over bytes from address 0, under a palette whose colour 1 is pink.

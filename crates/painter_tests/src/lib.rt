@@ -8,6 +8,8 @@ mod mapping_tests;
 #[cfg(test)]
 mod pixel_tests;
 #[cfg(test)]
+mod shapes;
+#[cfg(test)]
 mod table;
 #[cfg(test)]
 mod table_tests;

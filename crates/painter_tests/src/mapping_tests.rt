@@ -1,17 +1,7 @@
 // Where columns lie on their surfaces.
-use painter::{Ablit, Atile, Blit, Fill, Mapping, Tile, Transform};
+use crate::shapes::blit;
+use painter::{Ablit, Atile, Fill, Mapping, Tile, Transform};
 use surface::Format;
-
-fn blit(x0: u16) -> Blit {
-    Blit {
-        size: 0,
-        poff: 0,
-        y0: 0,
-        x0,
-        image: 0,
-        format: Format::P4,
-    }
-}
 
 fn tile(xscroll: u16, yscroll: u16) -> Tile {
     Tile {
@@ -39,7 +29,7 @@ fn transform(a00: i16, a01: i16) -> Transform {
 
 #[test]
 fn a_blit_goes_round_the_right_edge(rt: HostRuntime) {
-    let square = blit(1020);
+    let square = blit(1020, 0);
     assert_eq!(rt; square.place(0, 0), Some((4, 0)));
     assert_eq!(rt; square.place(7, 3), Some((7, 7)));
     assert_eq!(rt; square.place(0, 4), None);
@@ -49,7 +39,7 @@ fn a_blit_goes_round_the_right_edge(rt: HostRuntime) {
 
 #[test]
 fn columns_outside_are_counted(rt: HostRuntime) {
-    let square = blit(100);
+    let square = blit(100, 0);
     assert_eq!(rt; square.columns_outside(0, 0), 99);
     assert_eq!(rt; square.columns_outside(0, 99), 0);
     assert_eq!(rt; square.columns_outside(0, 107), 1016);
@@ -72,7 +62,7 @@ fn tiles_scroll_both_ways(rt: HostRuntime) {
 #[test]
 fn an_ablit_may_come_to_a_negative_place(rt: HostRuntime) {
     let turned = Ablit {
-        blit: blit(0),
+        blit: blit(0, 0),
         half: false,
         transform: transform(0, -256),
     };

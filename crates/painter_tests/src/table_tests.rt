@@ -15,7 +15,7 @@ fn sheet() -> [u8; 40000] {
     bytes
 }
 
-// 256 colours, every third of them not opaque.
+// 256 colours, every third of them not opaque; the benchmark has others, in a crate that tests have nothing to do with.
 fn palette() -> Palette {
     let mut palette = Palette::new();
     for index in 0..=255u8 {
@@ -63,6 +63,7 @@ fn check_case<M: Memory>(rt: &impl Abort, memory: &M, (drawing, span, weight, to
     assert_eq!(rt; weight_of(&line), weight);
 }
 
+// The table has tuples, a row to a line, since a row of structs would be ten lines.
 fn blit((size, poff, y0, x0, image, format): BlitFields) -> Blit {
     Blit {
         size,

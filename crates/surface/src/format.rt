@@ -18,7 +18,8 @@ pub enum Format {
     P1,
 }
 
-// A pixel format, as a type of its own.
+// A pixel format, as a type of its own. There are four types, not one with its width as a parameter: that one could be given
+// a width that no format has.
 pub trait PixelFormat {
     // how many bits a pixel has
     ghost WIDTH: { ℕ };

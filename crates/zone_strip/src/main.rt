@@ -24,10 +24,12 @@ fn start(rt: &HostRuntime) -> anyhow::Result<()> {
     };
     match first.as_str() {
         "--help" | "-h" => Ok(rt.print(HELP)?),
-        "--picture" => match arguments.next() {
-            Some(path) => picture::write(rt, &read_card(rt, path.as_str())?),
-            None => Err(anyhow!("--picture needs a card")),
-        },
+        "--picture" => {
+            let path = arguments
+                .next()
+                .ok_or_else(|| anyhow!("--picture needs a card"))?;
+            picture::write(rt, &read_card(rt, path.as_str())?)
+        }
         path => {
             text::print(rt, path, &read_card(rt, path)?)?;
             for path in arguments {
