@@ -25,7 +25,7 @@ fn weighted_sum(a: i32, b: i32, c: i32, dx: i32, dy: i32) -> i32
         .wrapping_add(c)
 }
 
-// One coordinate.
+// One coordinate. The distances are two numbers, as in the formula: a pair would only be taken apart.
 fn coordinate(a: i16, b: i16, c: u16, dx: i32, dy: i32) -> u16
     ensures { result ≡ affine a b c dx dy }
 {

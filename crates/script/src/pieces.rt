@@ -37,7 +37,7 @@ impl<'a> Pieces<'a> {
         self.next().ok_or(ScriptError::MissingPiece)
     }
 
-    // Nothing but spaces may be left.
+    // Nothing but spaces may be left. A `match`: no method of Option turns a value into an error.
     pub(crate) fn end(mut self) -> Result<(), ScriptError>
         ensures { result ≡ end_of (first_piece self.entry) }
     {
@@ -59,7 +59,7 @@ impl<'a> Iterator for Pieces<'a> {
     fn next(&mut self) -> Option<&'a [u8]> {
         let (piece, rest) = cut(self.rest);
         self.rest = rest;
-        if piece.is_empty() { None } else { Some(piece) }
+        (!piece.is_empty()).then_some(piece)
     }
 }
 
@@ -72,7 +72,7 @@ fn cut(line: &[u8]) -> (&[u8], &[u8])
     line.split_at(piece_length(line))
 }
 
-// How many spaces stand at the front.
+// How many spaces stand at the front. (With this chain and the next inside `cut`, its clauses were tried and stayed open.)
 fn space_count(line: &[u8]) -> usize
     ensures value { result ≡ prefix_len is_space line.now }
     ensures bound { result ≤ length line.now }

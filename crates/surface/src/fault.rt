@@ -31,6 +31,7 @@ pub struct Fault {
     pub address: u32,
 }
 
+// What this prints is tested, not proved: contracts have no word for what `{:08X}` writes.
 impl fmt::Display for Fault {
     fn fmt<W: fmt::Write>(&self, f: &mut fmt::Formatter<W>) -> fmt::Result {
         let Fault {
