@@ -6,3 +6,4 @@ pub mod Blocks
 pub mod Cards
 pub mod States
 pub mod Laws
+pub mod Texts

@@ -3,3 +3,4 @@ pub mod Spans
 pub mod SpanLaws
 pub mod Drawings
 pub mod Columns
+pub mod SpanRefusals

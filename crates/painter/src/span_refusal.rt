@@ -1,3 +1,6 @@
+ghost use Rattle.std.specs.Prelude.{Some};
+ghost use Rattle.painter.specs.SpanRefusals.{span_refusal_text};
+
 use std::error::Error;
 use std::fmt;
 use surface::Fault;
@@ -10,6 +13,8 @@ pub struct SpanRefusal {
 }
 
 impl fmt::Display for SpanRefusal {
+    ghost output = { λ refused. Some (span_refusal_text refused) };
+
     fn fmt<W: fmt::Write>(&self, f: &mut fmt::Formatter<W>) -> fmt::Result {
         let SpanRefusal { column, fault } = *self;
         write!(f, "{fault}, column {column}")

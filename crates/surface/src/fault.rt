@@ -1,5 +1,5 @@
 ghost use Rattle.std.specs.Prelude.{Some};
-ghost use Rattle.surface.specs.Faults.{reading_text};
+ghost use Rattle.surface.specs.Faults.{reading_text, fault_text};
 
 use memory::Refusal;
 use std::error::Error;
@@ -31,8 +31,9 @@ pub struct Fault {
     pub address: u32,
 }
 
-// What this prints is tested, not proved: contracts have no word for what `{:08X}` writes.
 impl fmt::Display for Fault {
+    ghost output = { λ fault. Some (fault_text fault) };
+
     fn fmt<W: fmt::Write>(&self, f: &mut fmt::Formatter<W>) -> fmt::Result {
         let Fault {
             refusal,
