@@ -34,7 +34,7 @@ pub(crate) fn card_file(heap: Global, bytes: &[u8]) -> Result<Vec<u8>, AllocErro
     Ok(file)
 }
 
-// 256 colours, every fourth of them not opaque.
+// 256 colours, every fourth of them not opaque; the tests have others, in a crate that this program has nothing to do with.
 pub(crate) fn palette() -> Palette {
     let mut palette = Palette::new();
     for index in 0..=255u8 {

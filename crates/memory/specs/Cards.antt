@@ -10,8 +10,9 @@ pub record CardFile : Type 0 where
   pub base : ℕ
   pub file : List ℕ
 
-abbrev pub card_file : ℕ → List ℕ → CardFile
-card_file base file = record { base = base; file = file }
+-- the card of a file at a base
+abbrev pub card_at : ℕ → List ℕ → CardFile
+card_at base file = record { base = base; file = file }
 
 -- block k of a file
 abbrev pub block : List ℕ → ℕ → List ℕ

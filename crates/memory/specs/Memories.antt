@@ -1,7 +1,7 @@
 -- What flat memory and a split show.
 use Rattle.std.specs.Prelude.{ℕ, ◌+◌, ◌-◌, ◌%◌, ◌^◌, Bool, cond, ◌&&◌, List, length, Ok, Err, Result, ◌==◌, nat_le, nat_lt}
 use Rattle.memory.specs.declared.refusal.Refusal.{Refusal}
-use Rattle.memory.specs.declared.refusal.Refusal.TheVariants.{OddAddress, Absent}
+use Rattle.memory.specs.Refusals.{refusal}
 use Rattle.memory.specs.Halfwords.{halfword}
 use Rattle.memory.specs.Outcomes.{Outcome, present, absent}
 
@@ -11,7 +11,7 @@ in_reach base a = nat_le base a && nat_lt a (2 ^ 32)
 
 -- how far an address lies behind a base; an odd address is refused, and one below the base
 abbrev pub offset : ℕ → ℕ → Result ℕ Refusal
-offset base a = cond (a % 2 == 1) (Err OddAddress) (cond (nat_le base a) (Ok (a - base)) (Err Absent))
+offset base a = cond (a % 2 == 1) (Err (refusal 1)) (cond (nat_le base a) (Ok (a - base)) (Err (refusal 2)))
 
 -- flat memory: a halfword is there if both its bytes are among the caller's
 abbrev pub flat : ℕ → List ℕ → ℕ → Outcome

@@ -18,6 +18,7 @@ pub record StatesOf (file : List ℕ) (states : List BlockState) : Type 0 where
   pub enough : block_count file ≤ length states
   pub each : (k : ℕ) → k < block_count file → slice_index_or states k Sound ≡ state_at file k
 
+-- the state says that the block is sound
 abbrev pub is_sound : BlockState → Bool
 is_sound Sound = true
 is_sound Unsound = false

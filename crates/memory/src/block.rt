@@ -66,7 +66,7 @@ pub(crate) fn check_block(block: &Block, k: u32) -> BlockState
     }
 }
 
-// Writes a halfword at byte i, low byte first.
+// Writes a halfword at byte i, low byte first. (With `copy_from_slice` its clause was tried and stayed open.)
 fn put_halfword(block: &mut Block, i: usize, h: u16)
     requires { i + 1 < 512 }
     ensures { block.new ≡ put block.old i h }

@@ -1,10 +1,11 @@
 ghost use Rattle.std.specs.Prelude.{◌≡◌, ◌%◌, ◌<◌, ◌≤◌, count_by};
-ghost use Rattle.memory.specs.Cards.{block_count, sound_count, block_outcome, card, card_file};
+ghost use Rattle.memory.specs.Cards.{block_count, sound_count, block_outcome, card, card_at};
 ghost use Rattle.memory.specs.Halfwords.{even, Bytes};
 ghost use Rattle.memory.specs.Laws.{CardLaws};
 ghost use Rattle.memory.specs.Outcomes.{even_answer};
 ghost use Rattle.memory.specs.States.{StatesOf, is_sound};
 
+use crate::address::even;
 use crate::block::{BlockState, blocks_of, check_block, halfword_at};
 use crate::memory::{Memory, offset_from};
 use crate::refusal::Refusal;
@@ -56,7 +57,7 @@ impl Card {
     // The card of a file at an even base; each block is summed once.
     fn at_even_base(base: u32, file: Vec<u8>) -> Self
         requires { base % 2 ≡ 0 }
-        ensures value { result ≡ card_file base file.items }
+        ensures value { result ≡ card_at base file.items }
         ensures laws { CardLaws base file.items (⟦<Card as Memory>⟧.outcome result) }
     {
         let states = check_blocks(file.as_slice());
@@ -87,10 +88,10 @@ impl Card {
     // Takes a file over and shows its sound blocks; an odd base is rounded down to even. What the card shows is the
     // outcome function below; `laws` says what that means for a damaged card and for a sealed one.
     pub fn new(base: u32, file: Vec<u8>) -> Self
-        ensures value { result ≡ card_file (even base) file.items }
+        ensures value { result ≡ card_at (even base) file.items }
         ensures laws { CardLaws (even base) file.items (⟦<Card as Memory>⟧.outcome result) }
     {
-        Card::at_even_base(base - base % 2, file)
+        Card::at_even_base(even(base), file)
     }
 
     // How many blocks the card has.

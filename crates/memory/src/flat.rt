@@ -2,6 +2,7 @@ ghost use Rattle.std.specs.Prelude.{◌≡◌};
 ghost use Rattle.memory.specs.Halfwords.{even};
 ghost use Rattle.memory.specs.Memories.{flat};
 
+use crate::address::even;
 use crate::block::halfword_at;
 use crate::memory::{Memory, offset_from};
 use crate::refusal::Refusal;
@@ -19,7 +20,7 @@ impl<'a> Flat<'a> {
         ensures { ⟦<Flat<'a> as Memory>⟧.outcome result ≡ flat (even base) bytes.now }
     {
         Flat {
-            base: base - base % 2,
+            base: even(base),
             bytes,
         }
     }

@@ -1,6 +1,7 @@
 // Memories: each means one outcome for every even address, and is read a halfword at a time.
 #![tactic(auto)]
 
+mod address;
 mod block;
 mod card;
 mod flat;
@@ -8,6 +9,7 @@ mod memory;
 mod refusal;
 mod split;
 
+pub use address::even;
 pub use block::seal;
 pub use card::Card;
 pub use flat::Flat;

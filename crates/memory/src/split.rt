@@ -2,6 +2,7 @@ ghost use Rattle.std.specs.Prelude.{◌≡◌};
 ghost use Rattle.memory.specs.Halfwords.{even};
 ghost use Rattle.memory.specs.Memories.{split};
 
+use crate::address::even;
 use crate::memory::Memory;
 use crate::refusal::Refusal;
 
@@ -19,7 +20,7 @@ impl<A: Memory, B: Memory> Split<A, B> {
         ensures { ⟦<Split<A, B> as Memory>⟧.outcome result ≡ split (even boundary) (A.Memory.outcome low) (B.Memory.outcome high) }
     {
         Split {
-            boundary: boundary - boundary % 2,
+            boundary: even(boundary),
             low,
             high,
         }

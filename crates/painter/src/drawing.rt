@@ -24,7 +24,8 @@ pub enum Drawing {
 }
 
 impl Drawing {
-    // The format that a drawing names; a fill has no pixels to unpack, so any will do.
+    // The format that a drawing names; a fill has no pixels to unpack, so any will do. (With an Option `draw` would only get an
+    // arm more, which draws in some format too.)
     fn format(self) -> Format
         ensures { result ≡ format_of self }
     {

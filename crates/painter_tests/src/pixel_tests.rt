@@ -33,7 +33,7 @@ fn colours_are_five_bits_each(rt: HostRuntime) {
     assert!(rt; is_opaque(0x8000) && !is_opaque(0x7FFF));
 }
 
-// The colour at a place, or the refusal's number and the address.
+// The colour at a place, or the refusal's number, as the documents have it, and the address.
 fn colour_at<S: Surface>(
     surface: &S,
     at: (u16, u16),

@@ -4,7 +4,7 @@ use surface::{Format, Reading};
 // The line number, and the start and end of the clip.
 pub(crate) type Span = (u16, u16, u16);
 
-// The refusal that must come, if one must: its number, what was read, the address and the column.
+// The refusal that must come, if one must: its number (as the documents have it), what was read, the address and the column.
 pub(crate) type Told = Option<(u8, Reading, u32, u16)>;
 
 // size, poff, y0, x0, image, format

@@ -4,7 +4,7 @@ ghost use Rattle.memory.specs.Halfwords.{even};
 ghost use Rattle.memory.specs.Memories.{flat};
 ghost use Rattle.panel.specs.Rams.{ram_bytes, Zeroed, NotMade, has_room, PokeOf};
 
-use memory::{Flat, Memory, Refusal};
+use memory::{Flat, Memory, Refusal, even};
 use script::ScriptError;
 use std::alloc::Global;
 use std::marker::Model;
@@ -36,7 +36,7 @@ impl Ram {
         ensures { result ≡ ram_bytes (even base) bytes.items }
     {
         Ram {
-            base: base - base % 2,
+            base: even(base),
             bytes,
         }
     }

@@ -83,7 +83,7 @@ abbrev pub Means : Type 0 → Result Command ScriptError → Result Meaning Scri
 Means P (Ok command) said = Ok (meaning command) ≡ said
 Means P (Err e) said = (Err e ≡ said) ⊎ ((e ≡ OutOfMemory) × P)
 
--- the same of a command whose fields were read, with what is left behind them: nothing but spaces may be
+-- the same of a command of which the fields were read: it is what the line says if nothing but spaces is left behind them
 abbrev pub MeansAtEnd : Type 0 → Result Command ScriptError → List ℕ → Result Meaning ScriptError → Type 0
 MeansAtEnd P (Ok command) rest said = then (end_of (first_piece rest)) (λ _. Ok (meaning command)) ≡ said
 MeansAtEnd P (Err e) rest said = (Err e ≡ said) ⊎ ((e ≡ OutOfMemory) × P)

@@ -22,17 +22,17 @@ size_of radix bs = if nat_lt 0 (length bs) && all_digits radix bs then Some (min
 abbrev pub unsigned_size : List ℕ → Option ℕ
 unsigned_size bs = if slice_index bs 0 == 48 && slice_index bs 1 == 120 then size_of 16 (drop 2 bs) else size_of 10 bs
 
--- a size as a number
-abbrev pub signed : Option ℕ → Option ℤ
-signed size = option_map (λ n. pos n) size
+-- a size as a number, and a size behind a minus sign
+abbrev pub positive : Option ℕ → Option ℤ
+positive size = option_map (λ n. pos n) size
 
 -- a size behind a minus sign as a number
-abbrev pub negated : Option ℕ → Option ℤ
-negated size = option_map (λ n. neg_ℤ (pos n)) size
+abbrev pub negative : Option ℕ → Option ℤ
+negative size = option_map (λ n. neg_ℤ (pos n)) size
 
 -- behind a minus sign stands a decimal number
 abbrev pub number_of : List ℕ → Result ℤ ScriptError
-number_of bs = ok_or (if slice_index bs 0 == 45 then negated (size_of 10 (drop 1 bs)) else signed (unsigned_size bs)) MalformedNumber
+number_of bs = ok_or (if slice_index bs 0 == 45 then negative (size_of 10 (drop 1 bs)) else positive (unsigned_size bs)) MalformedNumber
 
 -- a number held to 32 bits without sign
 abbrev pub unsigned_32 : ℤ → Result ℕ ScriptError

@@ -8,7 +8,7 @@ use std::alloc::AllocError;
 use std::error::Error;
 use std::{fmt, io};
 
-#[derive(Clone, Copy, PartialEq, Eq, Hash, Debug)]
+#[derive(Clone, Copy, PartialEq, Eq, Debug)]
 pub enum ScriptError {
     // a line that is no remark has a carriage return
     CarriageReturn,
@@ -79,7 +79,7 @@ impl From<FromHexError> for ScriptError {
     }
 }
 
-// A script reads no file but those of its cards.
+// A card's file, or the script itself, that cannot be read.
 impl From<io::Error> for ScriptError {
     ghost from_gives = { IsFileError };
 

@@ -1,7 +1,7 @@
 // Numbers as a script writes them: 12, -256, 0x1F.
 ghost use Rattle.std.specs.Prelude.{◌≡◌, ◌≤◌};
 ghost use Rattle.script.specs.Fields.{then};
-ghost use Rattle.script.specs.Numbers.{size_of, signed, number_of, unsigned_32};
+ghost use Rattle.script.specs.Numbers.{size_of, positive, number_of, unsigned_32};
 
 use crate::errors::ScriptError;
 
@@ -30,7 +30,7 @@ pub(crate) fn read_u32(piece: &[u8]) -> Result<u32, ScriptError>
 // What digits spell, up to the limit.
 fn size(digits: &[u8], radix: u32) -> Option<i64>
     requires { (2 ≤ radix) × (radix ≤ 16) }
-    ensures { result ≡ signed (size_of radix digits.now) }
+    ensures { result ≡ positive (size_of radix digits.now) }
 {
     if digits.is_empty() {
         return None;

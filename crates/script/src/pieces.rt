@@ -37,14 +37,11 @@ impl<'a> Pieces<'a> {
         self.next().ok_or(ScriptError::MissingPiece)
     }
 
-    // Nothing but spaces may be left. A `match`: no method of Option turns a value into an error.
+    // Nothing but spaces may be left.
     pub(crate) fn end(mut self) -> Result<(), ScriptError>
         ensures { result ≡ end_of (first_piece self.entry) }
     {
-        match self.next() {
-            Some(_) => Err(ScriptError::ExtraPiece),
-            None => Ok(()),
-        }
+        self.next().map_or(Ok(()), |_| Err(ScriptError::ExtraPiece))
     }
 }
 
@@ -72,7 +69,8 @@ fn cut(line: &[u8]) -> (&[u8], &[u8])
     line.split_at(piece_length(line))
 }
 
-// How many spaces stand at the front. (With this chain and the next inside `cut`, its clauses were tried and stayed open.)
+// How many spaces stand at the front. (With this chain and the next inside `cut`, its clauses were tried and stayed open; one
+// function over a closure would be no plainer, since its contract could only say what the closure answers.)
 fn space_count(line: &[u8]) -> usize
     ensures value { result ≡ prefix_len is_space line.now }
     ensures bound { result ≤ length line.now }

@@ -18,8 +18,7 @@ pub enum Format {
     P1,
 }
 
-// A pixel format, as a type of its own. There are four types, not one with its width as a parameter: that one could be given
-// a width that no format has.
+// A pixel format, as a type of its own. An implementation has its two constants and no more.
 pub trait PixelFormat {
     // how many bits a pixel has
     ghost WIDTH: { ℕ };

@@ -9,7 +9,7 @@ use crate::pixel::pixel_at;
 use crate::side::power_of_two;
 use crate::source::Source;
 use crate::surface::Surface;
-use memory::Memory;
+use memory::{Memory, even};
 use std::marker::PhantomData;
 
 // A square field of tiles. The tile map has a byte for each tile, row by row: which tile of the tile set it is. Tiles
@@ -93,7 +93,7 @@ impl<F: PixelFormat> Surface for TileField<F> {
         let (u, v) = at;
         let side = self.side();
         let place = self.place_of_index(u % side, v % side);
-        let halfword = source.read(Reading::TileIndex, place - place % 2)?;
+        let halfword = source.read(Reading::TileIndex, even(place))?;
         self.pixel_of_tile(byte_of(place, halfword), u % side, v % side, source)
     }
 }
