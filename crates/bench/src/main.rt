@@ -8,6 +8,7 @@ mod sheet;
 
 use memory::{Card, Flat};
 use std::env;
+use surface::Source;
 
 fn main(rt: HostRuntime) -> anyhow::Result<()> {
     start(&rt)
@@ -16,17 +17,24 @@ fn main(rt: HostRuntime) -> anyhow::Result<()> {
 fn start(rt: &HostRuntime) -> anyhow::Result<()> {
     let mut arguments = env::args(rt)?.skip(1);
     let bytes = sheet::bytes(rt.alloc())?;
-    let flat = Flat::new(0, bytes.as_slice());
-    let card = Card::new(0, sheet::card_file(rt.alloc(), bytes.as_slice())?);
+    let palette = sheet::palette();
+    let flat = Source {
+        memory: &Flat::new(0, bytes.as_slice()),
+        palette: &palette,
+    };
+    let card = Source {
+        memory: &Card::new(0, sheet::card_file(rt.alloc(), bytes.as_slice())?),
+        palette: &palette,
+    };
     match arguments.next() {
         Some(word) => {
             let spans = word.as_str().parse::<u32>()?;
-            report::time_all(rt, "flat memory", &flat, spans)?;
-            report::time_all(rt, "a card", &card, spans)
+            report::time_all(rt, "flat memory", flat, spans)?;
+            report::time_all(rt, "a card", card, spans)
         }
         None => {
-            report::check_all(rt, "flat memory", &flat)?;
-            report::check_all(rt, "a card", &card)
+            report::check_all(rt, "flat memory", flat)?;
+            report::check_all(rt, "a card", card)
         }
     }
 }

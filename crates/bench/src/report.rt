@@ -1,6 +1,5 @@
 // What the benchmark prints.
 use crate::jobs::jobs;
-use crate::sheet;
 use memory::Memory;
 use std::time::Instant;
 use surface::Source;
@@ -13,12 +12,11 @@ fn digest(line: &[u16; 512]) -> u32 {
 }
 
 // A few spans of each job, and the digest of the line that they leave.
-pub(crate) fn check_all<M: Memory>(rt: &HostRuntime, from: &str, memory: &M) -> anyhow::Result<()> {
-    let palette = sheet::palette();
-    let source = Source {
-        memory,
-        palette: &palette,
-    };
+pub(crate) fn check_all<M: Memory>(
+    rt: &HostRuntime,
+    from: &str,
+    source: Source<'_, M>,
+) -> anyhow::Result<()> {
     for job in jobs() {
         let mut line = [0u16; 512];
         let refused = job.draw(&mut line, 16, source);
@@ -38,14 +36,9 @@ fn rate(spans: u32, columns: u16, micros: u128) -> u128 {
 pub(crate) fn time_all<M: Memory>(
     rt: &HostRuntime,
     from: &str,
-    memory: &M,
+    source: Source<'_, M>,
     spans: u32,
 ) -> anyhow::Result<()> {
-    let palette = sheet::palette();
-    let source = Source {
-        memory,
-        palette: &palette,
-    };
     for job in jobs() {
         let mut line = [0u16; 512];
         let start = Instant::now(rt)?;
