@@ -19,7 +19,7 @@ card_file panel = panel.card.file
 
 -- what the panel's memory shows: the card below the boundary, the RAM from there on
 abbrev pub shown : Panel → ℕ → Outcome
-shown panel = split (even panel.boundary) (card panel.card.base (card_file panel)) (flat (even panel.ram.base) panel.ram.bytes)
+shown panel = split (even panel.boundary) (card panel.card.base (card_file panel)) (flat (even panel.ram.base) (vec_items panel.ram.bytes))
 
 -- nothing but the card has changed, and it shows its file from the base on
 pub record OnlyCard (base : ℕ) (before after : Panel) : Type 0 where

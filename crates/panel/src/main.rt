@@ -60,7 +60,7 @@ fn obey_lines(rt: &HostRuntime, input: &mut impl BufRead) -> io::Result<()> {
             Ok(_) => print::outcome(rt, number, obey(rt, &mut panel, line.as_slice()))?,
             Err(error) if error.kind() == io::ErrorKind::OutOfMemory => {
                 print::outcome(rt, number, Err(error.into()))?;
-                input.skip_until(b'\n')?;
+                lines::skip_line(input)?;
             }
             Err(error) => return Err(error),
         }

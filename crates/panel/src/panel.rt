@@ -2,7 +2,6 @@
 ghost use Rattle.std.specs.Prelude.{◌≡◌, [], Ok, OnErr};
 ghost use Rattle.memory.specs.Outcomes.{answer};
 ghost use Rattle.panel.specs.Panels.{ShowsCard, MakesRam, SetsBoundary, Pokes, Does, card_file, shown};
-ghost use Rattle.panel.specs.Rams.{ram_bytes};
 
 use crate::files::read_file;
 use crate::ram::Ram;
@@ -32,7 +31,7 @@ impl Panel {
     // A card with no blocks, a RAM of no bytes, the boundary at 0.
     pub(crate) fn new(heap: Global) -> Panel
         ensures card { card_file result ≡ [] }
-        ensures ram { result.ram ≡ ram_bytes 0 [] }
+        ensures ram { (result.ram.base ≡ 0) × (result.ram.bytes.items ≡ []) }
         ensures boundary { result.boundary ≡ 0 }
     {
         Panel {

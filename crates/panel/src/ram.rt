@@ -15,7 +15,8 @@ const LIMIT: u32 = 1_048_576;
 // How many addresses there are.
 const ADDRESSES: u64 = 0x1_0000_0000;
 
-// Bytes from an even base address on. Contracts see the base and the bytes.
+// Bytes from an even base address on. Contracts see the base and the vector of the bytes, by names of the specifications: a
+// RAM that is as it was takes the memory that it took.
 #[derive(Drop)]
 pub(crate) struct Ram {
     base: u32,
@@ -27,13 +28,13 @@ impl Model for Ram {
 
     ghost Value = { RamBytes };
 
-    ghost view = { λ ram. record { base = ram.base; bytes = ram.bytes.items } };
+    ghost view = { λ ram. record { base = ram.base; bytes = ram.bytes } };
 }
 
 impl Ram {
     // These bytes; an odd base is rounded down.
     pub(crate) fn new(base: u32, bytes: Vec<u8>) -> Ram
-        ensures { result ≡ ram_bytes (even base) bytes.items }
+        ensures { result ≡ ram_bytes (even base) bytes }
     {
         Ram {
             base: even(base),
@@ -76,7 +77,7 @@ impl Ram {
 }
 
 impl Memory for Ram {
-    ghost outcome = { λ ram. flat (even ram.base) ram.bytes };
+    ghost outcome = { λ ram. flat (even ram.base) ram.bytes.items };
 
     fn read(&self, address: u32) -> Result<u16, Refusal> {
         Flat::new(self.base, self.bytes.as_slice()).read(address)

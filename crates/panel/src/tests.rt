@@ -1,5 +1,5 @@
 // Examples of lines, and of what the RAM takes.
-use crate::lines::without_line_feed;
+use crate::lines::{skip_line, without_line_feed};
 use crate::ram::Ram;
 use std::test::Fail;
 
@@ -20,4 +20,19 @@ fn a_last_line_may_lack_its_line_feed(rt: HostRuntime) {
     assert!(rt; without_line_feed(b"peek 0") == b"peek 0".as_slice());
     assert!(rt; without_line_feed(b"\n").is_empty());
     assert!(rt; without_line_feed(b"").is_empty());
+}
+
+#[test]
+fn a_line_is_passed_over(rt: HostRuntime) -> Result<(), Fail> {
+    let mut input = b"poke 0 0\npeek 0\n\nlast".as_slice();
+    skip_line(&mut input)?;
+    assert!(rt; input == b"peek 0\n\nlast".as_slice());
+    skip_line(&mut input)?;
+    skip_line(&mut input)?;
+    assert!(rt; input == b"last".as_slice());
+    skip_line(&mut input)?;
+    assert!(rt; input.is_empty());
+    skip_line(&mut input)?;
+    assert!(rt; input.is_empty());
+    Ok(())
 }

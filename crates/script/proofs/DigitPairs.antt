@@ -1,6 +1,6 @@
 -- What `hex::decode` answers, in this crate's words.
-use Rattle.std.proofs.Common.{◌≡◌, ℕ, ◌+◌, ◌*◌, ◌%◌, Bool, true, false, ◌&&◌, ltb, eqb, List, [], ◌∷◌, ◌<◌, inl, inr, length, Some, None, Ok, Err, Option, Result, refl, sym, arith}
-use Rattle.std.specs.Char.{digit_value}
+use Rattle.std.proofs.Common.{◌≡◌, ℕ, ◌+◌, ◌*◌, ◌%◌, Bool, true, false, ◌&&◌, ltb, eqb, List, [], ◌∷◌, ◌<◌, inl, inr, length, Some, None, Ok, Err, Option, Result, refl, sym, subst, arith}
+use Rattle.std.specs.Char.{digit_value, is_ascii_hexdigit}
 use Rattle.std.proofs.lemmas.Bool.Decides.{nat_tests}
 use Rattle.std.proofs.lemmas.Bool.{cases_eq, eq-eqb, ne_eqb, eqb-false}
 use Rattle.script.specs.declared.errors.ScriptError.{ScriptError}
@@ -8,7 +8,7 @@ use Rattle.script.specs.declared.errors.ScriptError.TheVariants.{MalformedBytes}
 use Rattle.hex.specs.Hex.{decode_of, decode_pairs, hex_digit_value, digit_or_error, ◌>>=◌}
 use Rattle.hex.specs.declared.error.FromHexError.{FromHexError}
 use Rattle.script.specs.Numbers.{all_digits}
-use Rattle.script.specs.Bytes.{spelled_bytes, bytes_of}
+use Rattle.script.specs.Bytes.{are_pairs, spelled_bytes, bytes_of}
 
 -- a digit as `hex` reads it, and its value
 abbrev IsDigit : Option ℕ → ℕ → Type 0
@@ -53,3 +53,15 @@ reads bs is =
       | inl odd ↦ rw (eq-eqb _ _ odd) (grind arith)
       | inr even ↦ rw (ne_eqb _ _ even) (even_reads bs (decode_pairs 0 bs) some (omega arith) (decodes 0 bs (omega arith)))
     ]
+
+-- a piece that is pairs of digits is decoded to the bytes that it spells
+pub pairs_decode : (bs : List ℕ) → true ≡ are_pairs bs → Decodes (decode_of bs) true (spelled_bytes bs)
+pairs_decode bs pairs =
+    let even : length bs % 2 ≡ 0 = grind (arith, pairs) in
+    let digits : all_digits 16 bs ≡ true = grind (arith, pairs) in
+    rw (ne_eqb (length bs % 2) 1 (λ odd. omega (arith, even, odd)))
+    (subst (λ d. Decodes (decode_pairs 0 bs) d (spelled_bytes bs)) digits (decodes 0 bs even))
+
+-- the library's test of a digit is this crate's
+pub hexdigit : (b : ℕ) → is_ascii_hexdigit b ≡ ltb (digit_value b) 16
+hexdigit b = grind (arith, nat_tests)

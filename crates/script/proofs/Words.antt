@@ -7,7 +7,7 @@ use Rattle.std.proofs.lemmas.Str.{IsUtf8-from_is_utf8}
 use lib.Utf8.{encode}
 use Rattle.std.specs.Str.{bytes_eq, is_utf8, chars}
 use Rattle.script.specs.declared.errors.ScriptError.TheVariants.{NoSuchCommand}
-use Rattle.script.specs.Commands.{command_of, remark, has, word_of, line_of}
+use Rattle.script.specs.Commands.{command_of, remark, has, word_of, pieces_of, line_of}
 use Rattle.script.specs.Fields.{then}
 use Rattle.script.specs.Pieces.{first_piece, behind}
 
@@ -24,7 +24,11 @@ at_word : (word bs : List ℕ) → 0 < length word → word_of word bs ≡ then 
 at_word [] bs some = absurd (omega arith)
 at_word (b ∷ word) bs some = refl
 
-pub no_text_line : (line word : List ℕ) → word ≡ first_piece line → 0 < length word → false ≡ remark line → false ≡ has 13 line → (IsUtf8 word → ⊥) → Err NoSuchCommand ≡ line_of line
-no_text_line line word is some plain clean no_text =
-    rw (← plain, ← clean, ← is)
-    (ap (λ said. then said (λ command. Ok (Some command))) (no_text_word word (behind line) no_text) ∙ sym (at_word word (behind line) some))
+pub no_text_line : (rest word : List ℕ) → word ≡ first_piece rest → 0 < length word → (IsUtf8 word → ⊥) → Err NoSuchCommand ≡ pieces_of rest
+no_text_line rest word is some no_text =
+    rw (← is)
+    (ap (λ said. then said (λ command. Ok (Some command))) (no_text_word word (behind rest) no_text) ∙ sym (at_word word (behind rest) some))
+
+-- the same of a whole line, which is no remark and has no carriage return
+pub no_text_whole_line : (line word : List ℕ) → word ≡ first_piece line → 0 < length word → false ≡ remark line → false ≡ has 13 line → (IsUtf8 word → ⊥) → Err NoSuchCommand ≡ line_of line
+no_text_whole_line line word is some plain clean no_text = rw (← plain, ← clean) (no_text_line line word is some no_text)

@@ -1,11 +1,12 @@
 -- The commands that a line spells.
-use Rattle.std.specs.Prelude.{◌≡◌, ℕ, Bool, cond, ◌⊎◌, List, [], ◌∷◌, Some, None, Ok, Err, vec_items, codes, Option, Result, ◌==◌, nat_eq}
+use Rattle.std.specs.Prelude.{◌≡◌, ℕ, Bool, true, cond, ◌⊎◌, List, [], ◌∷◌, Some, None, Ok, Err, vec_items, codes, Option, Result, ◌==◌, nat_eq}
 use Rattle.std.specs.List.{list_any, starts_with}
 use Rattle.std.specs.Str.{bytes_eq}
 use Rattle.script.specs.declared.errors.ScriptError.{ScriptError}
 use Rattle.script.specs.declared.errors.ScriptError.TheVariants.{CarriageReturn, NoSuchCommand, OutOfMemory}
 use Rattle.script.specs.declared.commands.Command.{Command}
 use Rattle.script.specs.declared.commands.Command.TheVariants.{Card, Ram, Boundary, Poke, Peek}
+use Rattle.script.specs.Bytes.{are_pairs}
 use Rattle.script.specs.Fields.{then, needed, field_32, field_bytes, end_of}
 use Rattle.script.specs.Pieces.{first_piece, behind}
 
@@ -100,3 +101,7 @@ LineMeans P (Err e) said = (Err e ≡ said) ⊎ ((e ≡ OutOfMemory) × P)
 -- the word of the command that has bytes to keep
 abbrev pub IsPoke : List ℕ → Type 0
 IsPoke word = word ≡ codes "poke"
+
+-- the command that has bytes to keep: its word is poke, and the second piece behind that is pairs of digits
+abbrev pub KeepsBytes : List ℕ → List ℕ → Type 0
+KeepsBytes word bs = IsPoke word × (are_pairs (first_piece (behind bs)) ≡ true)

@@ -1,6 +1,6 @@
 // The command that a line of a script spells.
-ghost use Rattle.script.specs.Commands.{Means, MeansAtEnd, LineMeans, IsPoke, line_of, command_of};
-ghost use Rattle.script.specs.Pieces.{first_piece};
+ghost use Rattle.script.specs.Commands.{Means, MeansAtEnd, LineMeans, KeepsBytes, line_of, command_of};
+ghost use Rattle.script.specs.Pieces.{first_piece, behind};
 
 use crate::bytes::read_bytes;
 use crate::errors::ScriptError;
@@ -18,10 +18,10 @@ pub enum Command<'a> {
     Peek { address: u32 },
 }
 
-// The command of a line, without its line feed; a blank line and a remark have none. Only a poke, which keeps its
-// bytes, can find no memory.
+// The command of a line, without its line feed; a blank line and a remark have none. Only a poke whose bytes are spelled
+// as they should be can find no memory.
 pub fn parse<'a>(heap: Global, line: &'a [u8]) -> Result<Option<Command<'a>>, ScriptError>
-    ensures { LineMeans (IsPoke (first_piece line.now)) result (line_of line.now) }
+    ensures { LineMeans (KeepsBytes (first_piece line.now) (behind line.now)) result (line_of line.now) }
 {
     if line.starts_with(b"#") {
         return Ok(None);
@@ -46,7 +46,7 @@ fn read_command<'a>(
     word: &str,
     mut pieces: Pieces<'a>,
 ) -> Result<Command<'a>, ScriptError>
-    ensures { Means (IsPoke word.now) result (command_of word.now pieces.entry) }
+    ensures { Means (KeepsBytes word.now pieces.entry) result (command_of word.now pieces.entry) }
 {
     let command = read_fields(heap, word, &mut pieces)?;
     pieces.end()?;
@@ -59,7 +59,7 @@ fn read_fields<'a>(
     word: &str,
     pieces: &mut Pieces<'a>,
 ) -> Result<Command<'a>, ScriptError>
-    ensures { MeansAtEnd (IsPoke word.now) result pieces.new (command_of word.now pieces.old) }
+    ensures { MeansAtEnd (KeepsBytes word.now pieces.old) result pieces.new (command_of word.now pieces.old) }
 {
     match word {
         "card" => Ok(Command::Card {

@@ -27,7 +27,7 @@ pub(crate) fn read_u32(piece: &[u8]) -> Result<u32, ScriptError>
     u32::try_from(read_number(piece)?).map_err(|_| ScriptError::NumberTooLarge)
 }
 
-// What digits spell, up to the limit.
+// What digits spell, up to the limit. Decimal digits have an arm of their own, which makes long numbers faster.
 fn size(digits: &[u8], radix: u32) -> Option<i64>
     requires { (2 ≤ radix) × (radix ≤ 16) }
     ensures { result ≡ positive (size_of radix digits.now) }
@@ -37,7 +37,10 @@ fn size(digits: &[u8], radix: u32) -> Option<i64>
     }
     let mut size: u64 = 0;
     for byte in digits {
-        let value = char::from(*byte).to_digit(radix)?;
+        let value = match *byte {
+            b'0'..=b'9' => Some(u32::from(*byte - b'0')).filter(|value| *value < radix),
+            letter => char::from(letter).to_digit(radix),
+        }?;
         size = (size * u64::from(radix) + u64::from(value)).min(LIMIT);
     }
     Some(size as i64)

@@ -1,4 +1,4 @@
-ghost use Rattle.std.specs.Prelude.{◌≡◌, ◌≤◌};
+ghost use Rattle.std.specs.Prelude.{◌≡◌, ◌<◌, ◌≤◌};
 ghost use Rattle.surface.specs.Formats.{pixels};
 ghost use Rattle.surface.specs.Sources.{colour_from};
 ghost use Rattle.surface.specs.Surfaces.{tile_side, field_side, index_address, byte_in, tile_address, tile_pixel, tile_lookup};
@@ -47,6 +47,7 @@ impl<F: PixelFormat> TileField<F> {
     #[tactic(auto, using(crate::proofs::Sides::tile_side_most))]
     fn side_of_tile(&self) -> u16
         ensures value { result ≡ tile_side self.now.s }
+        ensures some { 0 < result }
         ensures small { result ≤ 16 }
     {
         power_of_two(self.s % 2 + 3)
